@@ -1,0 +1,2 @@
+-- The laws of whole numbers and bits. Assumes nothing.
+pub mod Differences
