@@ -1,0 +1,110 @@
+-- Document 01's examples that are marked *, as one table with one theorem, proved by computing. Assumes nothing.
+use mathlib.Core.Path.{_≡_, refl}
+use mathlib.Core.List.{List, [], _∷_, _++_, map}
+use Prim.Native.Nat.{ℕ, _/_, _%_}
+use lib.ListN.{length}
+use lib.IntN.{ℤ, pos, negsuc}
+use Rattle.whole.specs.Bits.{bit}
+use Rattle.whole.specs.Divisors.{gcd, lcm}
+use Rattle.circuit.specs.Literals.{plus}
+use Rattle.circuit.specs.Circuits.{gates, clausesFrom}
+use Rattle.circuit.specs.Numbers.{product}
+use Rattle.circuit.specs.Counting.{aProduct, expandedWidth, anExpansion}
+use Rattle.sheet.specs.declared.Record.{Record}
+use Rattle.sheet.specs.Rows.{kindOf, readRow, rowsOf}
+use Rattle.sheet.specs.Values.{Value, numerator, denominator, rowVal, rowValues}
+use Rattle.sheet.specs.Acceptance.{Outcome, refused, accepted, Sheet, judge, walk, accept}
+use Rattle.sheet.specs.Steps.{rowSteps, steps, cells, clausesButLast, lastClause, clauses, slotsFor}
+use Rattle.sheet.specs.Calls.{constraint}
+use Rattle.sheet.specs.Texts.{ascii, beginsLine, bytesIn, tableIn, linesFrom, readLines, digitsIn, decimal, signed, slotText, slotTexts, dimacs, refusedLine}
+use Rattle.sheet.specs.Programs.{clauseProgram}
+
+-- a row's bytes, and those of a number constant by its 32 bits
+abbrev row : (kind p x y z : ℕ) → List ℕ
+row k p x y z = k ∷ p ∷ x / 256 ∷ x % 256 ∷ y / 256 ∷ y % 256 ∷ z / 256 ∷ z % 256 ∷ []
+
+abbrev number : (word denominator : ℕ) → List ℕ
+number n d = row 0x04 0 (n / 65536) (n % 65536) d
+
+-- a Boolean constant, so that a table of numbers may end
+abbrev end : List ℕ
+end = row 0x00 0 1 0 0
+
+-- what a table shows: number and place of its refusal, or what is asked of the sheet
+abbrev shown : (Sheet → List ℤ) → Outcome Sheet → List ℤ
+shown f (refused n p) = pos n ∷ pos p ∷ []
+shown f (accepted sheet) = f sheet
+
+abbrev widths : List ℕ → List ℤ
+widths table = shown (λ sheet. map (λ (r : Record). pos (r .width)) (sheet .records)) (accept table)
+
+abbrev numerators : List ℕ → List ℤ
+numerators table = shown (λ sheet. map numerator (rowValues (sheet .rows) [])) (accept table)
+
+abbrev denominators : List ℕ → List ℤ
+denominators table = shown (λ sheet. map (λ v. pos (denominator v)) (rowValues (sheet .rows) [])) (accept table)
+
+abbrev sizes : List ℕ → List ℤ
+sizes table = shown (λ sheet. pos (sheet .counts .variables) ∷ pos (sheet .counts .clauses) ∷ pos (sheet .counts .slots) ∷ []) (accept table)
+
+-- the same by counting what the steps make
+abbrev made : List ℕ → List ℤ
+made table = shown (λ sheet.
+    pos (length (gates 0 (steps (sheet .rows)))) ∷ pos (length (clauses (sheet .rows))) ∷ pos (length (slotsFor (sheet .rows))) ∷ []) (accept table)
+
+-- the constraint at each value of one unknown
+abbrev truths : List ℕ → List ℤ → List ℤ
+truths table vs = shown (λ sheet. map (λ v. pos (bit (constraint sheet (v ∷ [])))) vs) (accept table)
+
+pub record Example : Type 0 where
+  pub shows : List ℤ
+  pub wanted : List ℤ
+
+infix 3 _gives_
+abbrev _gives_ : List ℤ → List ℤ → Example
+a gives b = record { shows = a; wanted = b }
+
+abbrev aboveTwo : List ℕ
+aboveTwo = row 0x02 2 0 0 1 ++ number 2 1 ++ row 0x30 0 0 1 0
+
+abbrev pub examples : List Example
+examples =
+    -- constants: 0 and -1, 1 and -2, 127 and -128, 128 and -129
+    (widths (number 0 1 ++ number 0xffff_ffff 1 ++ end) gives pos 1 ∷ pos 1 ∷ pos 1 ∷ [])
+    ∷ (widths (number 1 1 ++ number 0xffff_fffe 1 ++ end) gives pos 2 ∷ pos 2 ∷ pos 1 ∷ [])
+    ∷ (widths (number 127 1 ++ number 0xffff_ff80 1 ++ end) gives pos 8 ∷ pos 8 ∷ pos 1 ∷ [])
+    ∷ (widths (number 128 1 ++ number 0xffff_ff7f 1 ++ end) gives pos 9 ∷ pos 9 ∷ pos 1 ∷ [])
+    -- 0 - (-4); -8 times -8
+    ∷ (widths (number 0 1 ++ number 0xffff_fffc 1 ++ row 0x21 0 0 1 0 ++ end) gives pos 1 ∷ pos 3 ∷ pos 4 ∷ pos 1 ∷ [])
+    ∷ (numerators (number 0 1 ++ number 0xffff_fffc 1 ++ row 0x21 0 0 1 0 ++ end) gives pos 0 ∷ negsuc 3 ∷ pos 4 ∷ pos 1 ∷ [])
+    ∷ (widths (number 0xffff_fff8 1 ++ row 0x22 0 0 0 0 ++ end) gives pos 4 ∷ pos 8 ∷ pos 1 ∷ [])
+    ∷ (numerators (number 0xffff_fff8 1 ++ row 0x22 0 0 0 0 ++ end) gives negsuc 7 ∷ pos 64 ∷ pos 1 ∷ [])
+    -- 1-bit integers, -1 times -1; the product alone; the table with both integers and both units
+    ∷ (widths (row 0x03 1 0 0 1 ++ row 0x03 1 0 0 1 ++ row 0x22 0 0 1 0 ++ end) gives pos 1 ∷ pos 1 ∷ pos 2 ∷ pos 1 ∷ [])
+    ∷ (numerators (number 0xffff_ffff 1 ++ row 0x22 0 0 0 0 ++ end) gives negsuc 0 ∷ pos 1 ∷ pos 1 ∷ [])
+    ∷ (pos (length (gates 3 (product (plus 1 ∷ []) (plus 2 ∷ [])))) ∷ pos (length (clausesFrom 3 (gates 3 (product (plus 1 ∷ []) (plus 2 ∷ []))))) ∷ []
+    gives pos 6 ∷ pos 23 ∷ [])
+    ∷ (sizes (row 0x03 1 0 0 1 ++ row 0x03 1 0 0 1 ++ row 0x22 0 0 1 0 ++ end) gives pos 9 ∷ pos 25 ∷ pos 90 ∷ [])
+    -- 3/2 + -1/4: the sum has one bit more than the expanded 6; ((1/2 times 4/2) times 3/2) + 1/2
+    ∷ (widths (number 3 2 ++ number 0xffff_ffff 4 ++ row 0x20 0 0 1 0 ++ end) gives pos 3 ∷ pos 1 ∷ pos 7 ∷ pos 1 ∷ [])
+    ∷ (pos (expandedWidth 3 2) ∷ [] gives pos 6 ∷ [])
+    ∷ (numerators (number 3 2 ++ number 0xffff_ffff 4 ++ row 0x20 0 0 1 0 ++ end) gives pos 3 ∷ negsuc 0 ∷ pos 5 ∷ pos 1 ∷ [])
+    ∷ (denominators (number 3 2 ++ number 0xffff_ffff 4 ++ row 0x20 0 0 1 0 ++ end) gives pos 2 ∷ pos 4 ∷ pos 4 ∷ pos 1 ∷ [])
+    ∷ (numerators (number 1 2 ++ number 4 2 ++ number 3 2 ++ row 0x22 0 0 1 0 ++ row 0x22 0 3 2 0 ++ row 0x20 0 4 0 0 ++ end)
+    gives pos 1 ∷ pos 4 ∷ pos 3 ∷ pos 4 ∷ pos 12 ∷ pos 16 ∷ pos 1 ∷ [])
+    ∷ (denominators (number 1 2 ++ number 4 2 ++ number 3 2 ++ row 0x22 0 0 1 0 ++ row 0x22 0 3 2 0 ++ row 0x20 0 4 0 0 ++ end)
+    gives pos 2 ∷ pos 2 ∷ pos 2 ∷ pos 4 ∷ pos 8 ∷ pos 8 ∷ pos 1 ∷ [])
+    -- 1/2 = 2/4
+    ∷ (numerators (number 1 2 ++ number 2 4 ++ row 0x31 0 0 1 0) gives pos 1 ∷ pos 2 ∷ pos 1 ∷ [])
+    -- the whole example
+    ∷ (map pos (clauseProgram (ascii "0100000000000000\n1000000000000000\n1100000000010000\n"))
+    gives map pos (ascii "p cnf 3 5\n1 0\n-3 2 0\n-3 -2 0\n3 -2 2 0\n3 0\n"))
+    -- a 2-bit natural above 2: its sizes, accepted and made; of 0, 1, 2 and 3 only 3 is a solution
+    ∷ (sizes aboveTwo gives pos 9 ∷ pos 26 ∷ pos 100 ∷ [])
+    ∷ (made aboveTwo gives pos 9 ∷ pos 26 ∷ pos 100 ∷ [])
+    ∷ (truths aboveTwo (pos 0 ∷ pos 1 ∷ pos 2 ∷ pos 3 ∷ []) gives pos 0 ∷ pos 0 ∷ pos 0 ∷ pos 1 ∷ [])
+    ∷ []
+
+pub examples-hold : map (λ (e : Example). e .shows) examples ≡ map (λ (e : Example). e .wanted) examples
+unfolding gcd lcm aProduct expandedWidth anExpansion kindOf readRow rowsOf rowVal rowValues judge walk accept rowSteps steps cells clausesButLast lastClause clauses slotsFor constraint beginsLine bytesIn tableIn linesFrom readLines digitsIn decimal signed slotText slotTexts dimacs refusedLine clauseProgram
+examples-hold = refl

@@ -1,0 +1,2 @@
+-- The worked examples, and the laws of a sheet. Assumes nothing.
+pub mod Examples
