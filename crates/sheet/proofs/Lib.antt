@@ -1,2 +1,3 @@
 -- The worked examples, and the laws of a sheet. Assumes nothing.
 pub mod Examples
+pub mod Accepted

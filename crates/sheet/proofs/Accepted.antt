@@ -1,0 +1,124 @@
+-- What acceptance tells: every row of an accepted table is read, passed every test, and has the record and counts of its plan.
+-- Assumes nothing.
+use mathlib.Core.Path.{_≡_, refl, sym, _∙_, ap}
+use mathlib.Core.Bool.{Bool, true, false, not}
+use mathlib.Core.List.{List, [], _∷_, _++_}
+use Prim.Native.Nat.{ℕ, zero, suc, _+_, _-_, _/_, _%_, _≤_, _<_}
+use native.Mathlib.Omega.{arith}
+use lib.Dec.{T, eqb, ltb, leb, nltb→le, eqb→eq, eqb-refl}
+use lib.ListN.{length, getD, take, drop, length-append}
+use Rattle.whole.specs.Tests.{if_then_else_}
+use Rattle.circuit.specs.declared.Counts.{Counts}
+use Rattle.circuit.specs.Counting.{_⊕_, theFirst, theLast}
+use Rattle.sheet.specs.declared.Kind.{Kind}
+use Rattle.sheet.specs.declared.Fields.{Fields}
+use Rattle.sheet.specs.declared.Reading.{Reading}
+use Rattle.sheet.specs.declared.Reading.the-variants.{Read, Refused}
+use Rattle.sheet.specs.declared.Record.{Record}
+use Rattle.sheet.specs.declared.Verdict.{Verdict}
+use Rattle.sheet.specs.declared.Verdict.the-variants.{Pass, Stop}
+use Rattle.sheet.specs.Rows.{readRow, andRows, rowsOf, uses}
+use Rattle.sheet.specs.Acceptance.{outOfRange, some, Plan, sort, planBy, stop_if_else_, recordBy, judgeBy, judge, Outcome, refused, accepted, Sheet, ending, onward, walk, accept}
+
+abbrev pub planFor : List Record → Fields → Plan
+planFor earlier f = planBy earlier (f .kind) (f .p) (f .x) (f .y) (f .z)
+
+-- a row that passes after earlier ones, with record r and counts k
+pub record Passes (earlier : List Record) (first : ℕ) (f : Fields) (r : Record) (k : Counts) : Type 0 where
+  pub ranged : outOfRange (uses (f .kind)) (f .p) (f .x) (f .z) ≡ false
+  pub sorted : some (λ s x. not (eqb (sort earlier x) s)) (uses (f .kind)) (f .x) (f .y) (f .z) ≡ false
+  pub common : planFor earlier f .common ≤ 4096
+  pub widest : planFor earlier f .widest ≤ 48
+  pub isRecord : r ≡ recordBy first (planFor earlier f)
+  pub isCounts : k ≡ planFor earlier f .counts
+
+-- rows that pass one after the other, to the records and the counts of all
+abbrev pub Passed : List Record → Counts → List Fields → List Record → Counts → Type 0
+Passed earlier so [] records total = (earlier ≡ records) × (so ≡ total)
+Passed earlier so (f ∷ rows) records total = (r : Record) × (k : Counts) × Passes earlier (so .slots) f r k × Passed (earlier ++ r ∷ []) (so ⊕ k) rows records total
+
+not-stopped : (n : ℕ) (b : Bool) (v : Verdict) {r : Record} {k : Counts} → (stop n if b else v) ≡ Pass r k → (b ≡ false) × (v ≡ Pass r k)
+not-stopped n true v e = let z : _≡_ {A = ℕ} 0 1 = cc in absurd (omega arith)
+not-stopped n false v e = (refl, e)
+
+at-most : (m n : ℕ) → ltb m n ≡ false → n ≤ m
+at-most m n e = nltb→le m n (rw e tt)
+
+-- constructors' arguments are equal where their results are
+same-pass : {r s : Record} {k l : Counts} → Pass r k ≡ Pass s l → (s ≡ r) × (l ≡ k)
+same-pass e = (cc, cc)
+
+pub judge-passes : (earlier : List Record) (first : ℕ) (f : Fields) (r : Record) (k : Counts) → judge earlier first (Read f) ≡ Pass r k → Passes earlier first f r k
+unfolding judge
+judge-passes earlier first f r k e =
+    let e₅ = not-stopped 5 _ _ e in
+    let e₆ = not-stopped 6 (some (λ s x. leb (length earlier) x) (uses (f .kind)) (f .x) (f .y) (f .z)) _ (e₅ .1) in
+    let e₇ = not-stopped 7 _ _ (e₆ .1) in
+    let e₈ = not-stopped 8 _ _ (e₇ .1) in
+    let e₉ = not-stopped 9 _ _ (e₈ .1) in
+    let same = same-pass (e₉ .1) in
+    record {
+      ranged = e₅ .0;
+      sorted = e₇ .0;
+      common = at-most _ _ (e₈ .0);
+      widest = at-most _ _ (e₉ .0);
+      isRecord = same .0;
+      isCounts = same .1;
+    }
+
+-- what a walk that ends well tells
+pub record Walked (table : List ℕ) (earlier : List Record) (so : Counts) (rows : List Fields) (left : ℕ) (sheet : Sheet) : Type 0 where
+  pub total : Counts
+  pub passed : Passed earlier so rows (sheet .records) total
+  pub counted : sheet .counts ≡ total ⊕ theLast
+  pub many : length (sheet .records) ≡ length earlier + left
+  pub ends : eqb (sort (sheet .records) (length (sheet .records) - 1)) 1 ≡ false
+  pub read : sheet .rows ≡ rowsOf (length (sheet .records)) table
+
+not-refused : (b : Bool) (n p : ℕ) (o : Outcome Sheet) {sheet : Sheet} → (if b then refused n p else o) ≡ accepted sheet → (b ≡ false) × (o ≡ accepted sheet)
+not-refused true n p o e = let z : _≡_ {A = ℕ} 0 1 = cc in absurd (omega arith)
+not-refused false n p o e = (refl, e)
+
+same-sheet : {a b : Sheet} → accepted a ≡ accepted b → b ≡ a
+same-sheet e = cc
+
+walk-tells : (table : List ℕ) (left : ℕ) (earlier : List Record) (so : Counts) (bytes : List ℕ) (sheet : Sheet)
+    → walk table earlier so left bytes ≡ accepted sheet → Walked table earlier so (rowsOf left bytes) left sheet
+unfolding walk rowsOf
+walk-tells table zero earlier so bytes sheet e =
+    let h = not-refused (eqb (sort earlier (length earlier - 1)) 1) _ _ _ e in
+    let same = same-sheet (h .1) in
+    record {
+      total = so;
+      passed = (ap (λ (s : Sheet). s .records) (sym same), refl);
+      counted = ap (λ (s : Sheet). s .counts) same;
+      many = ap (λ (s : Sheet). length (s .records)) same ∙ omega arith;
+      ends = rw same (h .0);
+      read = rw same;
+    }
+walk-tells table (suc left) earlier so bytes sheet e = step (readRow (take 8 bytes)) e (λ rs k. walk-tells table left rs k (drop 8 bytes) sheet)
+  where
+    rest : List Record → Counts → Outcome Sheet
+    rest rs k = walk table rs k left (drop 8 bytes)
+
+    Rest : Type 0
+    Rest = (rs : List Record) (k : Counts) → rest rs k ≡ accepted sheet → Walked table rs k (rowsOf left (drop 8 bytes)) left sheet
+
+    onwards : (f : Fields) (v : Verdict) → judge earlier (so .slots) (Read f) ≡ v → onward v earlier so rest ≡ accepted sheet → Rest
+        → Walked table earlier so (f ∷ rowsOf left (drop 8 bytes)) (suc left) sheet
+    onwards f (Stop n) q e h = let z : _≡_ {A = ℕ} 0 1 = cc in absurd (omega arith)
+    onwards f (Pass r k) q e h =
+        let w = h (earlier ++ r ∷ []) (so ⊕ k) e in
+        record {
+          total = w .total;
+          passed = (r, k, judge-passes earlier (so .slots) f r k q, w .passed);
+          counted = w .counted;
+          many = w .many ∙ rw (length-append earlier (r ∷ [])) (omega arith);
+          ends = w .ends;
+          read = w .read;
+        }
+
+    step : (reading : Reading) → onward (judge earlier (so .slots) reading) earlier so rest ≡ accepted sheet → Rest
+        → Walked table earlier so (andRows reading (rowsOf left (drop 8 bytes))) (suc left) sheet
+    step (Refused n) e h = let z : _≡_ {A = ℕ} 0 1 = cc in absurd (omega arith)
+    step (Read f) e h = onwards f (judge earlier (so .slots) (Read f)) refl e h
