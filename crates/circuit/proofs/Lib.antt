@@ -1,0 +1,3 @@
+-- The laws of literals, gates and circuits. Assumes nothing.
+pub mod Wellformed
+pub mod Bounds
