@@ -135,15 +135,15 @@ muxes-cost s c (x ∷ xs) (y ∷ ys) h a b =
 
 -- ---- the product: one row of ANDs, then for each further bit one of ANDs and one of adding, each row a bit shorter than the one before
 
-abbrev pub rowCounts : (bits : ℕ) → Counts
-rowCounts n = times n anAnd ⊕ times n addingBit
+abbrev pub anAddedRow : (bits : ℕ) → Counts
+anAddedRow n = times n anAnd ⊕ times n addingBit
 
-abbrev pub rowsCounts : (rows : ℕ) → Counts
-rowsCounts zero = nothing
-rowsCounts (suc k) = rowCounts (suc k) ⊕ rowsCounts k
+abbrev pub addedRows : (rows : ℕ) → Counts
+addedRows zero = nothing
+addedRows (suc k) = anAddedRow (suc k) ⊕ addedRows k
 
 pub addRows-cost : (s : State) {w : ℕ} (ys xs total : List Lit) → 0 < s .place → length ys < w → bound ys ≤ s .place → Lits (s .place) w xs
-    → Lits (s .place) (suc (length ys)) total → Cost s (addRows ys xs total) (λ i r. Spent s i (rowsCounts (length ys)) × Lits (i .place) (suc (length ys)) r)
+    → Lits (s .place) (suc (length ys)) total → Cost s (addRows ys xs total) (λ i r. Spent s i (addedRows (length ys)) × Lits (i .place) (suc (length ys)) r)
 addRows-cost s [] xs total h k b a t = cost-ret (omega arith)
 addRows-cost s (y ∷ ys) xs [] h k b a t = absurd (omega arith)
 addRows-cost s {w = w} (y ∷ ys) xs (l ∷ total) h k b a t =
@@ -153,22 +153,22 @@ addRows-cost s {w = w} (y ∷ ys) xs (l ∷ total) h k b a t =
     cost-bind (addRows-cost j {w = w} ys xs total′ (omega arith) (omega arith) (omega arith) (omega arith) (omega arith)) (λ o rest r.
     cost-ret (rw (← e) (grown-then (grown-then (p .0) (q .0)) (r .0)), omega arith))))
 
-record RowsClosed (k : ℕ) : Type 0 where
-  variables : rowsCounts k .variables ≡ 2 * (k * k + k)
-  clauses : 2 * rowsCounts k .clauses ≡ 17 * (k * k + k)
-  slots : rowsCounts k .slots ≡ 33 * (k * k + k)
+record ClosedForm (k : ℕ) : Type 0 where
+  variables : addedRows k .variables ≡ 2 * (k * k + k)
+  clauses : 2 * addedRows k .clauses ≡ 17 * (k * k + k)
+  slots : addedRows k .slots ≡ 33 * (k * k + k)
 
-rows-closed : (k : ℕ) → RowsClosed k
-rows-closed zero = omega arith
-rows-closed (suc k) =
-    let ih = rows-closed k in
+addedRows-closed : (k : ℕ) → ClosedForm k
+addedRows-closed zero = omega arith
+addedRows-closed (suc k) =
+    let ih = addedRows-closed k in
     record { variables = simp (suc-mul, mul-suc) (omega arith); clauses = simp (suc-mul, mul-suc) (omega arith); slots = simp (suc-mul, mul-suc) (omega arith) }
 
 -- W = k + 1 bits: 2W² - W variables, (17W² - 11W)/2 clauses, 33W² - 23W slots
-product-grown : {s i : State} (k : ℕ) → Spent s i (times (suc k) anAnd ⊕ rowsCounts k) → Spent s i (aProduct (suc k))
+product-grown : {s i : State} (k : ℕ) → Spent s i (times (suc k) anAnd ⊕ addedRows k) → Spent s i (aProduct (suc k))
 unfolding aProduct
 product-grown k g =
-    let r = rows-closed k in
+    let r = addedRows-closed k in
     record {
       place = simp (suc-mul, mul-suc) (omega arith);
       asked = g .asked;
@@ -222,3 +222,11 @@ expansion-cost s h f {v = v} {xs = xs} p a = go (eqb f 1)
         Spent s i (if one then nothing else aProduct (v + fewest (pos f))) × Lits (i .place) (if one then v else v + fewest (pos f)) r)
     go true = cost-ret (omega arith)
     go false = product-cost s h p (omega arith) a (constant-lits (pos f) h)
+
+pub expandedWidth-pos : {v : ℕ} (f : ℕ) → 0 < v → 0 < expandedWidth v f
+unfolding expandedWidth
+expandedWidth-pos {v = v} f p = go (eqb f 1)
+  where
+    go : (one : Bool) → 0 < (if one then v else v + fewest (pos f))
+    go true = p
+    go false = omega arith

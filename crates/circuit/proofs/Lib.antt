@@ -2,3 +2,4 @@
 pub mod Wellformed
 pub mod Bounds
 pub mod Costs
+pub mod Lengths
