@@ -1,12 +1,11 @@
 -- Gates, clauses and slots of circuits one after the other; what was counted is the lengths of what is made. Assumes nothing.
-use mathlib.Core.Path.{_≡_, refl, sym, _∙_, ap, subst}
-use mathlib.Core.List.{List, [], _∷_, _++_, map, append-assoc}
+use mathlib.Core.Path.{_≡_, refl, subst}
+use mathlib.Core.List.{List, [], _∷_, _++_, append-assoc}
 use Prim.Native.Nat.{ℕ, suc, _+_}
 use native.Mathlib.Omega.{arith}
-use native.Mathlib.Nat.{add-zero}
+use native.Mathlib.Nat.{add-zero, add-suc, suc-add}
 use lib.ListN.{length, length-append}
-use lib.IntN.{pos}
-use Rattle.circuit.specs.Literals.{Lit, plus, Clause, slot, slotsOf}
+use Rattle.circuit.specs.Literals.{plus, Clause, slotsOf}
 use Rattle.circuit.specs.Gates.{Gate, fixed, free, and, xor, mux, maj, gateClauses}
 use Rattle.circuit.specs.Circuits.{Circuit, ret, new, _>>=_, gates, out, clausesFrom}
 use Rattle.circuit.proofs.Wellformed.{Wf, count}
@@ -14,26 +13,20 @@ use Rattle.circuit.proofs.Costs.{State, gateCounts, step, After, Cost}
 
 pub slotsOf-append : (a b : List Clause) → slotsOf (a ++ b) ≡ slotsOf a ++ slotsOf b
 slotsOf-append [] b = refl
-slotsOf-append (c ∷ a) b = rw (slotsOf-append a b) (sym (append-assoc (map slot c) (pos 0 ∷ slotsOf a) (slotsOf b)))
+slotsOf-append (c ∷ a) b = rw (slotsOf-append a b, append-assoc)
 
 pub clausesFrom-append : (n : ℕ) (a b : List Gate) → clausesFrom n (a ++ b) ≡ clausesFrom n a ++ clausesFrom (n + length a) b
 clausesFrom-append n [] b = rw (add-zero n)
-clausesFrom-append n (g ∷ a) b =
-    let e : suc n + length a ≡ n + length (g ∷ a) = omega arith in
-    rw (clausesFrom-append (suc n) a b, e) (sym (append-assoc (gateClauses n g) (clausesFrom (suc n) a) _))
+clausesFrom-append n (g ∷ a) b = rw (clausesFrom-append (suc n) a b, suc-add, add-suc, append-assoc)
 
 module _ {A B : Type 0} where
   pub gates-bind : (n : ℕ) (c : Circuit A) (f : A → Circuit B) → gates n (c >>= f) ≡ gates n c ++ gates (n + length (gates n c)) (f (out n c))
   gates-bind n (ret a) f = rw (add-zero n)
-  gates-bind n (new g k) f =
-      let e : suc n + length (gates (suc n) (k (plus n))) ≡ n + length (gates n (new g k)) = omega arith in
-      rw (gates-bind (suc n) (k (plus n)) f, e)
+  gates-bind n (new g k) f = rw (gates-bind (suc n) (k (plus n)) f, suc-add, add-suc)
 
   pub out-bind : (n : ℕ) (c : Circuit A) (f : A → Circuit B) → out n (c >>= f) ≡ out (n + length (gates n c)) (f (out n c))
   out-bind n (ret a) f = rw (add-zero n)
-  out-bind n (new g k) f =
-      let e : suc n + length (gates (suc n) (k (plus n))) ≡ n + length (gates n (new g k)) = omega arith in
-      rw (out-bind (suc n) (k (plus n)) f, e)
+  out-bind n (new g k) f = rw (out-bind (suc n) (k (plus n)) f, suc-add, add-suc)
 
 pub gate-lengths : (n : ℕ) (g : Gate) → (length (gateClauses n g) ≡ gateCounts g .clauses) × (length (slotsOf (gateClauses n g)) ≡ gateCounts g .slots)
 gate-lengths n fixed = (refl, refl)
