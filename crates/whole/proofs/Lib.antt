@@ -1,2 +1,4 @@
 -- The laws of whole numbers and bits. Assumes nothing.
 pub mod Differences
+pub mod Divisors
+pub mod Ranges

@@ -1,0 +1,123 @@
+-- The width rules give enough bits: of two numbers that fit their widths the sum, the difference, the product and either of the two fit theirs;
+-- a constant fits its own width and no narrower one. Assumes nothing.
+use mathlib.Core.Path.{_≡_}
+use mathlib.Core.Bool.{Bool, true, false}
+use Prim.Native.Nat.{ℕ, zero, suc, _+_, _*_, _-_, _/_, _^_, _≤_, _<_, max}
+use native.Mathlib.Omega.{arith}
+use native.Mathlib.Nat.{pow-suc, mul-le-mul, suc-mul, mul-suc}
+use lib.Dec.{leb→le, le→leb, ltb→lt, lt→ltb}
+use lib.IntN.{ℤ, pos, negsuc, negℤ, _+ℤ_, _-ℤ_, _*ℤ_}
+use lib.Pow.{pow-mono, pow-add}
+use lib.Signed.{mag, _≤ℤ_, _<ℤ_}
+use Rattle.whole.specs.Tests.{if_then_else_}
+use Rattle.whole.specs.Bits.{Fits, digits, fewest}
+use Rattle.whole.proofs.Differences.{Dif, dif-pos, dif-negsuc, dif-add, dif-minus}
+
+-- ---- a range is one bound of mag
+
+mag-lt : (z : ℤ) (h : ℕ) → negℤ (pos h) ≤ℤ z → z <ℤ pos h → mag z < h
+mag-lt (pos n) h l u = ltb→lt n h (u .lt)
+mag-lt (negsuc n) zero l u = absurd (l .le)
+mag-lt (negsuc n) (suc h) l u = let k = leb→le n h (l .le) in omega arith
+
+lt-mag : (z : ℤ) (h : ℕ) → mag z < h → (negℤ (pos h) ≤ℤ z) × (z <ℤ pos h)
+lt-mag z zero k = absurd (omega arith)
+lt-mag (pos n) (suc h) k = (record { le = tt }, record { lt = lt→ltb n (suc h) k })
+lt-mag (negsuc n) (suc h) k = (record { le = le→leb n h (omega arith) }, record { lt = tt })
+
+below-fits : {k : ℕ} {z : ℤ} → Fits k z → mag z < 2 ^ (k - 1)
+below-fits {k = k} {z = z} p = mag-lt z (2 ^ (k - 1)) (p .low) (p .high)
+
+fits-below : {k : ℕ} {z : ℤ} → mag z < 2 ^ (k - 1) → Fits k z
+fits-below {k = k} {z = z} h = let r = lt-mag z (2 ^ (k - 1)) h in record { low = r .0; high = r .1 }
+
+pub fits-up : {j k : ℕ} {z : ℤ} → j ≤ k → Fits j z → Fits k z
+fits-up {j = j} {k = k} h p =
+    let m = pow-mono {i = j - 1} {j = k - 1} (omega arith) in
+    fits-below (omega (arith, below-fits p))
+
+pub natural-fits : {n p : ℕ} → n < 2 ^ p → Fits (suc p) (pos n)
+natural-fits {p = p} h = let e : suc p - 1 ≡ p = omega arith in fits-below (rw e h)
+
+-- ---- sums and differences
+
+-- z = up - down, each of the two in its range
+record Spread (k : ℕ) (z : ℤ) : Type 0 where
+  up : ℕ
+  down : ℕ
+  apart : Dif z up down
+  up-lt : up < 2 ^ (k - 1)
+  down-le : down ≤ 2 ^ (k - 1)
+
+spread : {k : ℕ} {z : ℤ} → Fits k z → Spread k z
+spread {z = pos n} p = record { up = n; down = 0; apart = dif-pos n; up-lt = below-fits p; down-le = omega arith }
+spread {z = negsuc n} p = let h = below-fits p in record { up = 0; down = suc n; apart = dif-negsuc n; up-lt = omega arith; down-le = h }
+
+fits-spread : {k : ℕ} {z : ℤ} → Spread k z → Fits k z
+fits-spread {z = pos n} s = fits-below (omega (arith, s .apart))
+fits-spread {z = negsuc n} s = fits-below (omega (arith, s .apart))
+
+two-ranges : (a b : ℕ) → 0 < a → 2 ^ (a - 1) + 2 ^ (b - 1) ≤ 2 ^ (suc (max a b) - 1)
+two-ranges a b h =
+    let e : suc (max a b) - 1 ≡ suc (max a b - 1) = omega arith in
+    let p = pow-mono {i = a - 1} {j = max a b - 1} (omega arith) in
+    let q = pow-mono {i = b - 1} {j = max a b - 1} (omega arith) in
+    rw (e, pow-suc) (omega arith)
+
+module _ {a b : ℕ} {x y : ℤ} (h : 0 < a) (k : 0 < b) (p : Fits a x) (q : Fits b y) where
+  pub sum-fits : Fits (suc (max a b)) (x +ℤ y)
+  sum-fits =
+      let s = spread p in
+      let t = spread q in
+      let w = two-ranges a b h in
+      fits-spread (record { up = s .up + t .up; down = s .down + t .down; apart = dif-add (s .apart) (t .apart); up-lt = omega arith; down-le = omega arith })
+
+  pub difference-fits : Fits (suc (max a b)) (x -ℤ y)
+  difference-fits =
+      let s = spread p in
+      let t = spread q in
+      let w = two-ranges a b h in
+      fits-spread (record { up = s .up + t .down; down = s .down + t .up; apart = dif-minus (s .apart) (t .apart); up-lt = omega arith; down-le = omega arith })
+
+pub choice-fits : (c : Bool) {a b : ℕ} {x y : ℤ} → Fits a x → Fits b y → Fits (max a b) (if c then x else y)
+choice-fits true p q = fits-up (omega arith) p
+choice-fits false p q = fits-up (omega arith) q
+
+-- ---- products
+
+mag-neg : (n : ℕ) → mag (negℤ (pos n)) ≤ n
+mag-neg zero = omega arith
+mag-neg (suc n) = omega arith
+
+mag-mul : (x y : ℤ) {g h : ℕ} → mag x < g → mag y < h → mag (x *ℤ y) < g * h * 2
+mag-mul (pos a) (pos b) p q = let f = simp (suc-mul, mul-suc) at (mul-le-mul p q) in omega arith
+mag-mul (pos a) (negsuc b) p q = let f = simp suc-mul at (mul-le-mul p q) in let k = mag-neg (a * suc b) in omega arith
+mag-mul (negsuc a) (pos b) p q = let f = simp mul-suc at (mul-le-mul p q) in let k = mag-neg (suc a * b) in omega arith
+mag-mul (negsuc a) (negsuc b) p q = let f = simp (suc-mul, mul-suc) at (mul-le-mul p q) in simp (suc-mul, mul-suc) (omega arith)
+
+pub product-fits : {a b : ℕ} {x y : ℤ} → 0 < a → 0 < b → Fits a x → Fits b y → Fits (a + b) (x *ℤ y)
+product-fits {a = a} {b = b} {x = x} {y = y} h k p q =
+    let e : a + b - 1 ≡ suc ((a - 1) + (b - 1)) = omega arith in
+    fits-below (rw (e, pow-suc 2 (a - 1 + (b - 1)), pow-add) (mag-mul x y (below-fits p) (below-fits q)))
+
+-- ---- constants
+
+digits-enough : (s n : ℕ) → n ≤ s → n < 2 ^ digits s n
+digits-enough zero n h = omega arith
+digits-enough (suc s) zero h = omega arith
+digits-enough (suc s) (suc n) h = let ih = digits-enough s (suc n / 2) (omega arith) in rw pow-suc (omega arith)
+
+digits-least : (s n k : ℕ) → n ≤ s → n < 2 ^ k → digits s n ≤ k
+digits-least zero n k h p = omega arith
+digits-least (suc s) zero k h p = omega arith
+digits-least (suc s) (suc n) zero h p = absurd (omega arith)
+digits-least (suc s) (suc n) (suc k) h p =
+    let e = pow-suc 2 k in
+    let ih = digits-least s (suc n / 2) k (omega arith) (omega arith) in
+    omega arith
+
+pub fewest-fits : (z : ℤ) → Fits (fewest z) z
+fewest-fits z = let e : fewest z - 1 ≡ digits (mag z) (mag z) = omega arith in fits-below (rw e (digits-enough (mag z) (mag z) (omega arith)))
+
+pub fewest-least : (z : ℤ) (k : ℕ) → 0 < k → Fits k z → fewest z ≤ k
+fewest-least z k h p = omega (arith, digits-least (mag z) (mag z) (k - 1) (omega arith) (below-fits p))
