@@ -1,7 +1,7 @@
 -- What acceptance tells: every row of an accepted table is read, passed every test, and has the record and counts of its plan.
 -- Assumes nothing.
-use mathlib.Core.Path.{_≡_, refl, sym, _∙_, ap}
-use mathlib.Core.Bool.{Bool, true, false, not}
+use mathlib.Core.Path.{_≡_, refl, sym, _∙_, ap, subst}
+use mathlib.Core.Bool.{Bool, true, false, not, false≢true}
 use mathlib.Core.List.{List, [], _∷_, _++_}
 use Prim.Native.Nat.{ℕ, zero, suc, _+_, _-_, _/_, _%_, _≤_, _<_}
 use native.Mathlib.Omega.{arith}
@@ -26,6 +26,7 @@ planFor earlier f = planBy earlier (f .kind) (f .p) (f .x) (f .y) (f .z)
 -- a row that passes after earlier ones, with record r and counts k
 pub record Passes (earlier : List Record) (first : ℕ) (f : Fields) (r : Record) (k : Counts) : Type 0 where
   pub ranged : outOfRange (uses (f .kind)) (f .p) (f .x) (f .z) ≡ false
+  pub named : some (λ s x. leb (length earlier) x) (uses (f .kind)) (f .x) (f .y) (f .z) ≡ false
   pub sorted : some (λ s x. not (eqb (sort earlier x) s)) (uses (f .kind)) (f .x) (f .y) (f .z) ≡ false
   pub common : planFor earlier f .common ≤ 4096
   pub widest : planFor earlier f .widest ≤ 48
@@ -59,6 +60,7 @@ judge-passes earlier first f r k e =
     let same = same-pass (e₉ .1) in
     record {
       ranged = e₅ .0;
+      named = e₆ .0;
       sorted = e₇ .0;
       common = at-most _ _ (e₈ .0);
       widest = at-most _ _ (e₉ .0);
@@ -84,7 +86,7 @@ same-sheet e = cc
 
 walk-tells : (table : List ℕ) (left : ℕ) (earlier : List Record) (so : Counts) (bytes : List ℕ) (sheet : Sheet)
     → walk table earlier so left bytes ≡ accepted sheet → Walked table earlier so (rowsOf left bytes) left sheet
-unfolding walk rowsOf
+unfolding walk rowsOf judge
 walk-tells table zero earlier so bytes sheet e =
     let h = not-refused (eqb (sort earlier (length earlier - 1)) 1) _ _ _ e in
     let same = same-sheet (h .1) in
@@ -122,3 +124,41 @@ walk-tells table (suc left) earlier so bytes sheet e = step (readRow (take 8 byt
         → Walked table earlier so (andRows reading (rowsOf left (drop 8 bytes))) (suc left) sheet
     step (Refused n) e h = let z : _≡_ {A = ℕ} 0 1 = cc in absurd (omega arith)
     step (Read f) e h = onwards f (judge earlier (so .slots) (Read f)) refl e h
+
+-- bytes in eights, and at least one
+at-least-one : (n : ℕ) → eqb n 0 ≡ false → not (eqb (n % 8) 0) ≡ false → 0 < n / 8
+at-least-one zero h k = absurd (false≢true (sym h))
+at-least-one (suc n) h k = let z : suc n % 8 ≡ 0 = eqb→eq (suc n % 8) 0 (of-not (eqb (suc n % 8) 0) k) in omega arith
+  where
+    of-not : (b : Bool) → not b ≡ false → T b
+    of-not true e = tt
+    of-not false e = absurd (false≢true (sym e))
+
+pub record IsAccepted (table : List ℕ) (sheet : Sheet) : Type 0 where
+  pub total : Counts
+  pub passed : Passed [] theFirst (sheet .rows) (sheet .records) total
+  pub counted : sheet .counts ≡ total ⊕ theLast
+  pub many : length (sheet .records) ≡ length table / 8
+  pub some : 0 < length (sheet .records)
+  pub ends : eqb (sort (sheet .records) (length (sheet .records) - 1)) 1 ≡ false
+
+walked-accepted : (table : List ℕ) (sheet : Sheet) → Walked table [] theFirst (rowsOf (length table / 8) table) (length table / 8) sheet → 0 < length table / 8 → IsAccepted table sheet
+walked-accepted table sheet w h =
+    let many : length (sheet .records) ≡ length table / 8 = w .many ∙ omega arith in
+    let rows : sheet .rows ≡ rowsOf (length table / 8) table = w .read ∙ ap (λ (n : ℕ). rowsOf n table) many in
+    record {
+      total = w .total;
+      passed = subst (λ (fs : List Fields). Passed [] theFirst fs (sheet .records) (w .total)) (sym rows) (w .passed);
+      counted = w .counted;
+      many = many;
+      some = omega arith;
+      ends = w .ends;
+    }
+
+pub accepted-tells : (table : List ℕ) (sheet : Sheet) → accept table ≡ accepted sheet → IsAccepted table sheet
+unfolding accept
+accepted-tells table sheet e =
+    let filled = not-refused (eqb (length table) 0) _ _ _ e in
+    let whole = not-refused (not (eqb (length table % 8) 0)) _ _ _ (filled .1) in
+    let few = not-refused (ltb 256 (length table / 8)) _ _ _ (whole .1) in
+    walked-accepted table sheet (walk-tells table (length table / 8) [] theFirst table sheet (few .1)) (at-least-one (length table) (filled .0) (whole .0))
