@@ -1,0 +1,2 @@
+-- Why the promise holds. Assumes nothing.
+pub mod Counts

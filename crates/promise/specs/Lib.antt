@@ -1,0 +1,2 @@
+-- What is promised of an accepted table. Assumes nothing.
+pub mod Promise

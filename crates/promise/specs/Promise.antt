@@ -1,0 +1,82 @@
+-- Demand 3, the two sentences for the assessor, and the counts: what is promised of an accepted table. Assumes nothing.
+use mathlib.Core.Path.{_≡_}
+use mathlib.Core.Bool.{Bool, true}
+use mathlib.Core.List.{List, [], _∷_, _++_}
+use Prim.Native.Nat.{ℕ, _*_, _<_}
+use lib.ListN.{length, getD}
+use lib.IntN.{ℤ}
+use Rattle.whole.specs.Bits.{Fits}
+use Rattle.circuit.specs.Literals.{Assignment, clauseTrue, allTrue}
+use Rattle.circuit.specs.Circuits.{gates}
+use Rattle.sheet.specs.declared.Kind.{Kind}
+use Rattle.sheet.specs.declared.Kind.the-variants.{BooleanConstant, BooleanUnknown, NaturalUnknown, IntegerUnknown, NumberConstant, Not, And, Or, Implies, Iff, Sum, Difference, Product, Choice, Greater, Equal}
+use Rattle.sheet.specs.declared.Fields.{Fields}
+use Rattle.sheet.specs.declared.Record.{Record}
+use Rattle.sheet.specs.Values.{Value, boolean, fraction, valueAt, shared, over, rowValues, unknowns}
+use Rattle.sheet.specs.Acceptance.{Sheet, missing, meeting, widthOver}
+use Rattle.sheet.specs.Steps.{steps, clausesButLast, lastClause, clauses, slotsFor, mapFor, readRows, settings, extension}
+use Rattle.sheet.specs.Calls.{constraint}
+
+-- an assignment carries values: it meets every clause but the last, and the unknowns' literals read as these values
+pub record Carries (sheet : Sheet) (values : List ℤ) (s : Assignment) : Type 0 where
+  pub sized : length s ≡ sheet .counts .variables
+  pub meets : allTrue s (clausesButLast (sheet .rows)) ≡ true
+  pub reads : settings sheet s ≡ values
+
+-- kinds 20, 21, 23, 30 and 31 bring two rows to one denominator
+abbrev pub broughtBy : Kind → (x y z : ℕ) → List ℕ
+broughtBy BooleanConstant x y z = []
+broughtBy BooleanUnknown x y z = []
+broughtBy NaturalUnknown x y z = []
+broughtBy IntegerUnknown x y z = []
+broughtBy NumberConstant x y z = []
+broughtBy Not x y z = []
+broughtBy And x y z = []
+broughtBy Or x y z = []
+broughtBy Implies x y z = []
+broughtBy Iff x y z = []
+broughtBy Sum x y z = x ∷ y ∷ []
+broughtBy Difference x y z = x ∷ y ∷ []
+broughtBy Product x y z = []
+broughtBy Choice x y z = y ∷ z ∷ []
+broughtBy Greater x y z = x ∷ y ∷ []
+broughtBy Equal x y z = x ∷ y ∷ []
+
+-- a number fits the width of its record; two expanded numerators fit the widths that acceptance counts them at
+abbrev pub FitsRow : Record → Value → Type 0
+FitsRow r (boolean b) = Unit {0}
+FitsRow r (fraction n d) = Fits (r .width) n
+
+abbrev pub FitBoth : List Record → List Value → List ℕ → Type 0
+FitBoth records values [] = Unit {0}
+FitBoth records values (x ∷ []) = Unit {0}
+FitBoth records values (x ∷ y ∷ xs) =
+    Fits (widthOver records (meeting records x y) x) (over values (shared values x y) x)
+    × Fits (widthOver records (meeting records x y) y) (over values (shared values x y) y)
+
+-- row i, of fields f
+pub record Wide (sheet : Sheet) (values : List Value) (i : ℕ) (f : Fields) : Type 0 where
+  pub own : FitsRow (getD (sheet .records) i missing) (valueAt values i)
+  pub expanded : FitBoth (sheet .records) values (broughtBy (f .kind) (f .x) (f .y) (f .z))
+
+-- demand 3, for values within their declared bits
+pub record Promise (sheet : Sheet) (values : List ℤ) : Type 0 where
+  -- no row's exact value, nor any expanded numerator, needs more bits than it was given
+  pub wide : (before : List Fields) (f : Fields) (after : List Fields) → sheet .rows ≡ before ++ f ∷ after
+      → Wide sheet (rowValues (sheet .rows) values) (length before) f
+  -- exactly one assignment carries these values and meets every clause but the last
+  pub one : Carries sheet values (extension (sheet .rows) values)
+  pub alone : (s : Assignment) → Carries sheet values s → s ≡ extension (sheet .rows) values
+  -- each row's bits in it read as that row's exact value
+  pub rows : (s : Assignment) → Carries sheet values s → readRows sheet s ≡ rowValues (sheet .rows) values
+  -- the last clause holds exactly if the constraint is true
+  pub last : (s : Assignment) → Carries sheet values s → clauseTrue s (lastClause (sheet .rows)) ≡ constraint sheet values
+
+-- what acceptance counts is what the steps make
+pub record Counted (sheet : Sheet) : Type 0 where
+  pub unknown : sheet .counts .unknowns ≡ length (unknowns (sheet .rows))
+  pub variables : sheet .counts .variables ≡ length (gates 0 (steps (sheet .rows)))
+  pub clause : sheet .counts .clauses ≡ length (clauses (sheet .rows))
+  pub slot : sheet .counts .slots ≡ length (slotsFor (sheet .rows))
+  pub places : length (mapFor (sheet .rows)) ≡ 48 * length (sheet .rows)
+  pub records : length (sheet .records) ≡ length (sheet .rows)
