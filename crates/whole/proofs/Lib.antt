@@ -1,2 +1,3 @@
 -- The laws of whole numbers and bits. Assumes nothing.
 pub mod Differences
+pub mod Tests
