@@ -1,3 +1,4 @@
 -- The laws of whole numbers and bits. Assumes nothing.
 pub mod Differences
 pub mod Tests
+pub mod Bits
