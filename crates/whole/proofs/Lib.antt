@@ -2,3 +2,4 @@
 pub mod Differences
 pub mod Tests
 pub mod Bits
+pub mod Extended
