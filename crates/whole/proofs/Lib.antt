@@ -3,3 +3,4 @@ pub mod Differences
 pub mod Tests
 pub mod Bits
 pub mod Extended
+pub mod Residues
