@@ -1,0 +1,2 @@
+-- The laws of gates and circuits. Assumes nothing.
+pub mod Gates
