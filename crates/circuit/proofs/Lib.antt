@@ -1,2 +1,3 @@
 -- The laws of gates and circuits. Assumes nothing.
 pub mod Gates
+pub mod Assignments
