@@ -5,8 +5,8 @@ use mathlib.Core.List.{List, [], _∷_, _++_}
 use Prim.Native.Nat.{ℕ, zero, suc, _+_, _≤_, _<_}
 use native.Mathlib.Omega.{arith}
 use native.Mathlib.Numerals.{add-one}
-use lib.ListN.{length, getD, drop, length-append, length-drop, List·getD-append}
-use lib.Seq.{append-snoc, getD-append-seam}
+use lib.ListN.{length, getD, drop, replicate, length-append, length-drop, length-replicate, List·getD-append}
+use lib.Seq.{append-snoc, drop-at, getD-append-seam}
 use Rattle.circuit.specs.Literals.{Lit, plus, minus, Clause, Assignment, litTrue, clauseTrue, allTrue}
 use Rattle.circuit.specs.Gates.{Gate, fixed, free, and, xor, mux, maj, gateClauses, gateVal}
 use Rattle.circuit.specs.Circuits.{clausesFrom, asks, next, run}
@@ -51,44 +51,26 @@ abbrev pub Wf : ℕ → List Gate → Type 0
 Wf n [] = Unit {0}
 Wf n (g ∷ gs) = WfGate n g × Wf (suc n) gs
 
--- how many are free, and their values in s: each before those of the gates that follow
+-- how many are free, and their values in s
 abbrev pub count : List Gate → ℕ
 count [] = 0
 count (g ∷ gs) = asks g + count gs
 
-abbrev pub own : Gate → Bool → List Bool → List Bool
-own fixed b l = l
-own free b l = b ∷ l
-own (and a₁ a₂) b l = l
-own (xor a₁ a₂) b l = l
-own (mux c a₁ a₂) b l = l
-own (maj a₁ a₂ a₃) b l = l
+abbrev pub own : Gate → Bool → List Bool
+own g b = replicate (asks g) b
 
 abbrev pub frees : Assignment → ℕ → List Gate → List Bool
 frees s n [] = []
-frees s n (g ∷ gs) = own g (getD s n false) (frees s (suc n) gs)
+frees s n (g ∷ gs) = own g (getD s n false) ++ frees s (suc n) gs
 
 pub frees-length : (s : Assignment) (n : ℕ) (gs : List Gate) → length (frees s n gs) ≡ count gs
 frees-length s n [] = refl
-frees-length s n (g ∷ gs) = own-length g ∙ ap (λ k. asks g + k) (frees-length s (suc n) gs)
-  where
-    own-length : (g : Gate) → length (own g (getD s n false) (frees s (suc n) gs)) ≡ asks g + length (frees s (suc n) gs)
-    own-length fixed = omega arith
-    own-length free = omega arith
-    own-length (and a b) = omega arith
-    own-length (xor a b) = omega arith
-    own-length (mux c a b) = omega arith
-    own-length (maj a b c) = omega arith
+frees-length s n (g ∷ gs) = simp (length-append, length-replicate) (ap (λ k. asks g + k) (frees-length s (suc n) gs))
 
-own-rest : (g : Gate) (b : Bool) (l : List Bool) → drop (asks g) (own g b l) ≡ l
-own-rest fixed b l = refl
-own-rest free b l = refl
-own-rest (and a₁ a₂) b l = refl
-own-rest (xor a₁ a₂) b l = refl
-own-rest (mux c a₁ a₂) b l = refl
-own-rest (maj a₁ a₂ a₃) b l = refl
+pub own-rest : (g : Gate) (b : Bool) (l : List Bool) → drop (asks g) (own g b ++ l) ≡ l
+own-rest g b l = drop-at (own g b) l (asks g) (length-replicate (asks g) b)
 
-own-back : (s : Assignment) (g : Gate) (bits : List Bool) → asks g ≤ length bits → own g (next s g bits) (drop (asks g) bits) ≡ bits
+own-back : (s : Assignment) (g : Gate) (bits : List Bool) → asks g ≤ length bits → own g (next s g bits) ++ drop (asks g) bits ≡ bits
 own-back s fixed bits h = refl
 own-back s free [] h = absurd (omega arith)
 own-back s free (b ∷ bits) h = refl
@@ -103,7 +85,7 @@ litTrue-before s r (plus i) h = List·getD-append s r false i h
 litTrue-before s r (minus i) h = ap not (List·getD-append s r false i h)
 
 value-here : (s r : Assignment) (b : Bool) (g : Gate) (bits : List Bool) → WfGate (length s) g
-    → gateVal (s ++ b ∷ r) (getD (s ++ b ∷ r) (length s) false) g ≡ next s g (own g b bits)
+    → gateVal (s ++ b ∷ r) (getD (s ++ b ∷ r) (length s) false) g ≡ next s g (own g b ++ bits)
 value-here s r b fixed bits w = refl
 value-here s r b free bits w = getD-append-seam s b r false
 value-here s r b (and x y) bits w = rw (litTrue-before s (b ∷ r) x (w .0), litTrue-before s (b ∷ r) y (w .1))
@@ -125,7 +107,7 @@ unique s (g ∷ gs) [] w e h = absurd (omega arith)
 unique s (g ∷ gs) (b ∷ r) w e h =
     let bits : List Bool = frees (s ++ b ∷ r) (suc (length s)) gs in
     let here : getD (s ++ b ∷ r) (length s) false ≡ b = getD-append-seam s b r false in
-    let is : next s g (own g b bits) ≡ b = sym (value-here s r b g bits (w .0)) ∙ sym (h .0) ∙ here in
+    let is : next s g (own g b ++ bits) ≡ b = sym (value-here s r b g bits (w .0)) ∙ sym (h .0) ∙ here in
     let w₁ : Wf (length (s ++ b ∷ [])) gs = rw (snoc-length s b) (w .1) in
     let h₁ : Holds (s ++ b ∷ [] ++ r) (length (s ++ b ∷ [])) gs = rw (snoc-length s b, append-snoc s b r) (h .1) in
     let ih : r ≡ run (s ++ b ∷ []) gs bits = rw (snoc-length s b, append-snoc s b r) at (unique (s ++ b ∷ []) gs r w₁ (omega arith) h₁) in

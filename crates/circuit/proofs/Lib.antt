@@ -1,3 +1,4 @@
 -- The laws of gates and circuits. Assumes nothing.
 pub mod Gates
 pub mod Assignments
+pub mod Meaning
