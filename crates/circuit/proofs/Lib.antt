@@ -2,3 +2,4 @@
 pub mod Gates
 pub mod Assignments
 pub mod Meaning
+pub mod Adding

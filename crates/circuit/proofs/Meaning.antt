@@ -1,7 +1,7 @@
 -- What a circuit's result means wherever its gates hold, said without a variable's number. Assumes nothing.
 use mathlib.Core.Path.{_≡_, refl, _∙_}
 use mathlib.Core.Bool.{Bool, false}
-use mathlib.Core.List.{List, _++_, append-assoc}
+use mathlib.Core.List.{List, _++_, map, append-assoc}
 use Prim.Native.Nat.{ℕ, suc}
 use lib.ListN.{getD, drop}
 use Rattle.circuit.specs.Literals.{Lit, plus, Assignment, litTrue}
@@ -66,3 +66,7 @@ module _ {A : Type 0} (s : Assignment) where
           let w₁ : (x : Lit) → litTrue s x ≡ gateVal s (getD (own g b ++ (l ++ r)) 0 false) g → Wp s (drop (asks g) (own g b ++ (l ++ r))) (k x) m Q
           = rw append-assoc at w in
           go (k (plus n)) (suc n) (rw (own-rest g b (l ++ r)) at (w₁ (plus n) (h .0 ∙ own-value s g b (l ++ r)))) (h .1)
+
+-- the bits that literals have under an assignment
+abbrev pub values : Assignment → List Lit → List Bool
+values s ls = map (litTrue s) ls

@@ -13,6 +13,13 @@ module _ {A : Type 0} where
   extended-length w [] p h = absurd (omega arith)
   extended-length w (x ∷ xs) p h = simp (length-append, length-replicate) (omega arith)
 
+  -- what follows the first
+  abbrev pub extendedTail : ℕ → A → List A → List A
+  extendedTail w x xs = xs ++ replicate (w - length (x ∷ xs)) (lastOf x xs)
+
+  pub extendedTail-length : (w : ℕ) (x : A) (xs : List A) → length (x ∷ xs) ≤ w → suc (length (extendedTail w x xs)) ≡ w
+  extendedTail-length w x xs h = extended-length w (x ∷ xs) (omega arith) h
+
   -- one place more
   abbrev pub wider : A → List A → List A
   wider x xs = x ∷ xs ++ lastOf x xs ∷ []
@@ -25,8 +32,7 @@ module _ {A : Type 0} where
   more-wider k x [] = repeated-wider k x
   more-wider k x (y ∷ xs) = ap (λ l. x ∷ l) (more-wider k y xs)
 
-  pub extended-wider : (w : ℕ) (x : A) (xs : List A) → length (x ∷ xs) ≤ w
-      → extended (suc w) (x ∷ xs) ≡ wider x (xs ++ replicate (w - length (x ∷ xs)) (lastOf x xs))
+  pub extended-wider : (w : ℕ) (x : A) (xs : List A) → length (x ∷ xs) ≤ w → extended (suc w) (x ∷ xs) ≡ wider x (extendedTail w x xs)
   extended-wider w x xs h =
       let e : suc w - length (x ∷ xs) ≡ suc (w - length (x ∷ xs)) = omega arith in
       rw e (more-wider (w - length (x ∷ xs)) x xs)
