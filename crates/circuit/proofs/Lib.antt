@@ -3,3 +3,4 @@ pub mod Gates
 pub mod Assignments
 pub mod Meaning
 pub mod Adding
+pub mod Multiplying

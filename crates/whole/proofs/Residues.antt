@@ -24,6 +24,9 @@ congruent-refl m a = record { left = 0; right = 0; same = refl }
 pub congruent-trans : {m a b c : ℕ} → Congruent m a b → Congruent m b c → Congruent m a c
 congruent-trans h k = record { left = h .left + k .left; right = h .right + k .right; same = simp add-mul (omega arith) }
 
+pub congruent-to : {m a b : ℕ} (c : ℕ) → Congruent m a b → b ≡ c → Congruent m a c
+congruent-to c h e = rw e at h
+
 pub congruent-add : {m a b c d : ℕ} → Congruent m a b → Congruent m c d → Congruent m (a + c) (b + d)
 congruent-add h k = record { left = h .left + k .left; right = h .right + k .right; same = simp add-mul (omega arith) }
 
