@@ -1,4 +1,5 @@
--- The multiplier on bits: at w places it is right but for multiples of 2^w, so at the sum of both widths it is exact; and the circuit computes it. Assumes nothing.
+-- The multiplier on bits: at w places it is right but for multiples of 2^w, so at the sum of both widths it is exact; and the
+-- circuit computes it. Assumes nothing.
 use mathlib.Core.Path.{_≡_, refl, sym, _∙_, ap, ap₂}
 use mathlib.Core.Bool.{Bool, true, false, _&&_}
 use mathlib.Core.List.{List, [], _∷_}
@@ -12,7 +13,8 @@ use lib.Signed.{mag}
 use Rattle.whole.specs.Bits.{bit, toInt, extended}
 use Rattle.whole.proofs.Bits.{Below, toInt-below, val}
 use Rattle.whole.proofs.Extended.{extended-length, extended-same}
-use Rattle.whole.proofs.Residues.{Congruent, congruent-refl, congruent-trans, congruent-to, congruent-add, congruent-double, Residue, residue-shift, residue-mul, residue-near, bits-residue}
+use Rattle.whole.proofs.Residues.{Congruent, congruent-refl, congruent-trans, congruent-to, congruent-add, congruent-double}
+use Rattle.whole.proofs.Residues.{residue-shift, residue-mul, residue-near, bits-residue}
 use Rattle.circuit.specs.Literals.{Lit, Assignment, litTrue, falsity}
 use Rattle.circuit.specs.Gates.{xorOf, majOf}
 use Rattle.circuit.specs.Numbers.{ands, addRows, multiplier}
@@ -67,36 +69,39 @@ adderBits-val c (x ∷ xs) (y ∷ ys) e =
     let h = one-place x y c in
     rw pow-suc (congruent-to _ (congruent-double (bit (xorOf (xorOf x y) c)) (adderBits-val (majOf x y c) xs ys (omega arith))) (omega arith))
 
+and-place : {m a : ℕ} (x y : Bool) (n : ℕ) → Congruent m a (bit y * n) → Congruent (m * 2) (bit (x && y) + 2 * a) (bit y * (bit x + 2 * n))
+and-place true true n h = congruent-to _ (congruent-double 1 h) (omega arith)
+and-place false true n h = congruent-to _ (congruent-double 0 h) (omega arith)
+and-place true false n h = congruent-to _ (congruent-double 0 h) (omega arith)
+and-place false false n h = congruent-to _ (congruent-double 0 h) (omega arith)
+
 andsBits-val : (n : ℕ) (xs : List Bool) (y : Bool) → Congruent (2 ^ n) (val (andsBits n xs y)) (bit y * val xs)
 andsBits-val zero xs y = record { left = bit y * val xs; right = 0; same = omega arith }
 andsBits-val (suc n) [] y = record { left = 0; right = 0; same = omega arith }
-andsBits-val (suc n) (true ∷ xs) true = rw pow-suc (congruent-to _ (congruent-double 1 (andsBits-val n xs true)) (omega arith))
-andsBits-val (suc n) (false ∷ xs) true = rw pow-suc (congruent-to _ (congruent-double 0 (andsBits-val n xs true)) (omega arith))
-andsBits-val (suc n) (true ∷ xs) false = rw pow-suc (congruent-to _ (congruent-double 0 (andsBits-val n xs false)) (omega arith))
-andsBits-val (suc n) (false ∷ xs) false = rw pow-suc (congruent-to _ (congruent-double 0 (andsBits-val n xs false)) (omega arith))
+andsBits-val (suc n) (x ∷ xs) y = rw pow-suc (and-place x y (val xs) (andsBits-val n xs y))
 
-one-row : {m rest sum row : ℕ} (t y total ys xs : ℕ) → Congruent m rest (sum + 2 * (ys * xs)) → Congruent m sum (total + row + 0) → Congruent m row (y * xs)
+one-row : {m rest sum row : ℕ} (t y total ys xs : ℕ)
+    → Congruent m rest (sum + 2 * (ys * xs)) → Congruent m sum (total + row + 0) → Congruent m row (y * xs)
     → Congruent (m * 2) (t + 2 * rest) (t + 2 * total + 2 * ((y + 2 * ys) * xs))
 one-row {m = m} t y total ys xs h k l =
     let sum = congruent-trans k (congruent-add (congruent-add (congruent-refl m total) l) (congruent-refl m 0)) in
     let all = congruent-trans h (congruent-add sum (congruent-refl m (2 * (ys * xs)))) in
     congruent-to _ (congruent-double t all) (simp (add-mul, mul-assoc) (omega arith))
 
-addRowsBits-val : (ys xs total : List Bool) → length total ≤ length xs
-    → Congruent (2 ^ length total) (val (addRowsBits ys xs total)) (val total + 2 * (val ys * val xs))
-addRowsBits-val [] xs total h = record { left = 0; right = 0; same = omega arith }
-addRowsBits-val (y ∷ ys) xs [] h = record { left = 0 + 2 * ((bit y + 2 * val ys) * val xs); right = 0; same = omega arith }
-addRowsBits-val (y ∷ ys) xs (t ∷ total) h =
+addRowsBits-val : (ys xs total : List Bool) {n : ℕ} → length total ≡ n → n ≤ length xs
+    → Congruent (2 ^ n) (val (addRowsBits ys xs total)) (val total + 2 * (val ys * val xs))
+addRowsBits-val [] xs total e h = record { left = 0; right = 0; same = omega arith }
+addRowsBits-val (y ∷ ys) xs [] e h = rw (← e) (record { left = 0 + 2 * ((bit y + 2 * val ys) * val xs); right = 0; same = omega arith })
+addRowsBits-val (y ∷ ys) xs (t ∷ total) e h =
+    let sum = adderBits-val false total (andsBits (length total) xs y) (row-length xs total y (omega arith)) in
     let l = total-length xs total y (omega arith) in
-    let rest = rw l at (addRowsBits-val ys xs (adderBits false total (andsBits (length total) xs y)) (omega arith)) in
-    rw pow-suc
-    (one-row (bit t) (bit y) (val total) (val ys) (val xs) rest (adderBits-val false total _ (row-length xs total y (omega arith))) (andsBits-val (length total) xs y))
+    rw (← e, pow-suc 2 (length total))
+    (one-row (bit t) (bit y) (val total) (val ys) (val xs) (addRowsBits-val ys xs _ l (omega arith)) sum (andsBits-val (length total) xs y))
 
 multiplierBits-val : (xs ys : List Bool) → Congruent (2 ^ length xs) (val (multiplierBits xs ys)) (val ys * val xs)
 multiplierBits-val xs [] = congruent-to _ (congruent-refl (2 ^ length xs) 0) (omega arith)
 multiplierBits-val xs (y ∷ ys) =
-    let l : length (andsBits (length xs) xs y) ≡ length xs = andsBits-length (length xs) xs y (omega arith) in
-    let rows = rw l at (addRowsBits-val ys xs (andsBits (length xs) xs y) (omega arith)) in
+    let rows = addRowsBits-val ys xs (andsBits (length xs) xs y) (andsBits-length (length xs) xs y (omega arith)) (omega arith) in
     congruent-to _ (congruent-trans rows (congruent-add (andsBits-val (length xs) xs y) (congruent-refl (2 ^ length xs) (2 * (val ys * val xs)))))
     (simp (add-mul, mul-assoc) (omega arith))
 
@@ -133,7 +138,9 @@ product-exact (x ∷ xs) (y ∷ ys) p q =
     let e : w ≡ suc (suc (length xs + length ys)) = omega arith in
     let fx : toInt (extended w (x ∷ xs)) ≡ toInt (x ∷ xs) = extended-same w (x ∷ xs) in
     let fy : toInt (extended w (y ∷ ys)) ≡ toInt (y ∷ ys) = extended-same w (y ∷ ys) in
-    let b = product-below (length xs) (length ys) (toInt (x ∷ xs)) (toInt (y ∷ ys)) (toInt-below (length xs) (x ∷ xs) refl) (toInt-below (length ys) (y ∷ ys) refl) in
+    let bx = toInt-below (length xs) (x ∷ xs) refl in
+    let by = toInt-below (length ys) (y ∷ ys) refl in
+    let b = product-below (length xs) (length ys) (toInt (x ∷ xs)) (toInt (y ∷ ys)) bx by in
     multiplier-exact (suc (length xs + length ys)) (extended w (x ∷ xs)) (extended w (y ∷ ys))
     (extended-length w (x ∷ xs) p (omega arith) ∙ e) (extended-length w (y ∷ ys) q (omega arith) ∙ e) (rw (fx, fy) b)
     ∙ ap₂ _*ℤ_ fx fy
