@@ -4,3 +4,4 @@ pub mod Assignments
 pub mod Meaning
 pub mod Adding
 pub mod Multiplying
+pub mod Comparing
