@@ -9,7 +9,7 @@ use lib.IntN.{pos, negℤ, _+ℤ_, _-ℤ_, +ℤ-idr, +ℤ-assoc}
 use Rattle.whole.specs.Bits.{bit, toInt, extended}
 use Rattle.whole.proofs.Differences.{dif-eq, dif-pos, dif-neg, dif-add}
 use Rattle.whole.proofs.Bits.{up, down, toInt-dif, bit-not}
-use Rattle.whole.proofs.Extended.{extendedTail, extendedTail-length, wider, extended-wider, extended-map, extended-same}
+use Rattle.whole.proofs.Extended.{Upto, extendedTail, extendedTail-length, wider, extended-wider, extended-map, extended-same}
 use Rattle.circuit.specs.Literals.{Lit, Assignment, litTrue}
 use Rattle.circuit.specs.Gates.{xorOf, majOf}
 use Rattle.circuit.specs.Numbers.{adder}
@@ -65,20 +65,20 @@ wider-exact c x xs y ys e =
     dif-eq (toInt-dif (adderBits c (wider x xs) (wider y ys))) (dif-add (dif-add (toInt-dif (x ∷ xs)) (toInt-dif (y ∷ ys))) (dif-pos (bit c))) (omega arith)
 
 -- two numbers no wider than w: in w + 1 places the sum with the carry is exact
-pub adder-exact : (c : Bool) (xs ys : List Bool) (w : ℕ) → 0 < length xs → 0 < length ys → length xs ≤ w → length ys ≤ w
+adder-exact : (c : Bool) {xs ys : List Bool} {w : ℕ} → Upto w xs → Upto w ys
     → toInt (adderBits c (extended (suc w) xs) (extended (suc w) ys)) ≡ toInt xs +ℤ toInt ys +ℤ pos (bit c)
-adder-exact c [] ys w p q h k = absurd (omega arith)
-adder-exact c (x ∷ xs) [] w p q h k = absurd (omega arith)
-adder-exact c (x ∷ xs) (y ∷ ys) w p q h k =
-    let e = extendedTail-length w x xs h in
-    let f = extendedTail-length w y ys k in
-    ap₂ (λ a b. toInt (adderBits c a b)) (extended-wider w x xs h) (extended-wider w y ys k)
+adder-exact c {xs = []} {ys} p q = absurd (omega arith)
+adder-exact c {xs = x ∷ xs} {ys = []} p q = absurd (omega arith)
+adder-exact c {xs = x ∷ xs} {ys = y ∷ ys} {w} p q =
+    let e = extendedTail-length w x xs (p .most) in
+    let f = extendedTail-length w y ys (q .most) in
+    ap₂ (λ a b. toInt (adderBits c a b)) (extended-wider w x xs (p .most)) (extended-wider w y ys (q .most))
     ∙ wider-exact c x (extendedTail w x xs) y (extendedTail w y ys) (omega arith)
     ∙ ap₂ (λ a b. a +ℤ b +ℤ pos (bit c)) (extended-same w (x ∷ xs)) (extended-same w (y ∷ ys))
 
-pub sum-exact : (xs ys : List Bool) (w : ℕ) → 0 < length xs → 0 < length ys → length xs ≤ w → length ys ≤ w
+pub sum-exact : {xs ys : List Bool} {w : ℕ} → Upto w xs → Upto w ys
     → toInt (adderBits false (extended (suc w) xs) (extended (suc w) ys)) ≡ toInt xs +ℤ toInt ys
-sum-exact xs ys w p q h k = adder-exact false xs ys w p q h k ∙ +ℤ-idr _
+sum-exact p q = adder-exact false p q ∙ +ℤ-idr _
 
 -- every bit turned is -1 less the number
 turned-places : (b : Bool) (bs : List Bool) → up (map not (b ∷ bs)) + up (b ∷ bs) + 1 ≡ down (map not (b ∷ bs)) + down (b ∷ bs)
@@ -92,12 +92,11 @@ turned (b ∷ bs) p =
     let h = turned-places b bs in
     dif-eq (dif-add (toInt-dif (map not (b ∷ bs))) (dif-pos 1)) (dif-neg (toInt-dif (b ∷ bs))) (omega arith)
 
-pub difference-exact : (xs ys : List Bool) (w : ℕ) → 0 < length xs → 0 < length ys → length xs ≤ w → length ys ≤ w
+pub difference-exact : {xs ys : List Bool} {w : ℕ} → Upto w xs → Upto w ys
     → toInt (adderBits true (extended (suc w) xs) (map not (extended (suc w) ys))) ≡ toInt xs -ℤ toInt ys
-difference-exact xs ys w p q h k =
-    let l : length (map not ys) ≡ length ys = length-map ys not in
-    rw (extended-map not (suc w) ys, ← turned ys q)
-    (adder-exact true xs (map not ys) w p (omega arith) h (omega arith) ∙ +ℤ-assoc (toInt xs) (toInt (map not ys)) (pos 1))
+difference-exact {xs} {ys} {w} p q =
+    let q₁ : Upto w (map not ys) = record { some = rw (length-map ys not) (q .some); most = rw (length-map ys not) (q .most) } in
+    rw (extended-map not (suc w) ys, ← turned ys (q .some)) (adder-exact true p q₁ ∙ +ℤ-assoc (toInt xs) (toInt (map not ys)) (pos 1))
 
 pub adder-sem : (s : Assignment) (l : List Bool) (carry : Lit) (xs ys : List Lit)
     → Sem s l (adder carry xs ys) l (λ r. values s r ≡ adderBits (litTrue s carry) (values s xs) (values s ys))

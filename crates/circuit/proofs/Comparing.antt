@@ -13,7 +13,7 @@ use Rattle.whole.specs.Bits.{bit, toInt, extended}
 use Rattle.whole.proofs.Differences.{dif-lt}
 use Rattle.whole.proofs.Tests.{same-passing, same-true, eqZ-iff}
 use Rattle.whole.proofs.Bits.{up, down, toInt-dif, toInt-inj}
-use Rattle.whole.proofs.Extended.{extended-length, extendedTail, extendedTail-length, extended-same}
+use Rattle.whole.proofs.Extended.{Upto, extended-length, extendedTail, extendedTail-length, extended-same}
 use Rattle.circuit.specs.Literals.{Lit, Assignment, litTrue}
 use Rattle.circuit.specs.Gates.{xorOf, muxOf}
 use Rattle.circuit.specs.Numbers.{greaterFrom, equalFrom}
@@ -64,13 +64,12 @@ greater-is x xs y ys e =
     let numbers = dif-lt (toInt-dif (y ∷ ys)) (toInt-dif (x ∷ xs)) in
     same-passing (λ t. let h = bits .0 t in numbers .1 (omega arith), λ t. let h = numbers .0 t in bits .1 (omega arith))
 
-pub greater-exact : (xs ys : List Bool) (w : ℕ) → 0 < length xs → 0 < length ys → length xs ≤ w → length ys ≤ w
-    → greaterBits false (extended w xs) (extended w ys) ≡ ltZ (toInt ys) (toInt xs)
-greater-exact [] ys w p q h k = absurd (omega arith)
-greater-exact (x ∷ xs) [] w p q h k = absurd (omega arith)
-greater-exact (x ∷ xs) (y ∷ ys) w p q h k =
-    let e = extendedTail-length w x xs h in
-    let f = extendedTail-length w y ys k in
+pub greater-exact : {xs ys : List Bool} {w : ℕ} → Upto w xs → Upto w ys → greaterBits false (extended w xs) (extended w ys) ≡ ltZ (toInt ys) (toInt xs)
+greater-exact {xs = []} {ys} p q = absurd (omega arith)
+greater-exact {xs = x ∷ xs} {ys = []} p q = absurd (omega arith)
+greater-exact {xs = x ∷ xs} {ys = y ∷ ys} {w} p q =
+    let e = extendedTail-length w x xs (p .most) in
+    let f = extendedTail-length w y ys (q .most) in
     greater-is x (extendedTail w x xs) y (extendedTail w y ys) (omega arith) ∙ ap₂ ltZ (extended-same w (y ∷ ys)) (extended-same w (x ∷ xs))
 
 abbrev pub equalBits : (e : Bool) → List Bool → List Bool → Bool
@@ -97,10 +96,9 @@ equal-self [] = refl
 equal-self (true ∷ xs) = equal-self xs
 equal-self (false ∷ xs) = equal-self xs
 
-pub equal-exact : (xs ys : List Bool) (w : ℕ) → 0 < length xs → 0 < length ys → length xs ≤ w → length ys ≤ w
-    → equalBits true (extended w xs) (extended w ys) ≡ eqZ (toInt xs) (toInt ys)
-equal-exact xs ys w p q h k =
-    let l = extended-length w xs p h ∙ sym (extended-length w ys q k) in
+pub equal-exact : {xs ys : List Bool} {w : ℕ} → Upto w xs → Upto w ys → equalBits true (extended w xs) (extended w ys) ≡ eqZ (toInt xs) (toInt ys)
+equal-exact {xs} {ys} {w} p q =
+    let l = extended-length w xs (p .some) (p .most) ∙ sym (extended-length w ys (q .some) (q .most)) in
     let i = eqZ-iff (toInt xs) (toInt ys) in
     same-true (
       λ e. i .1 (sym (extended-same w xs) ∙ ap toInt (equal-bits (extended w xs) (extended w ys) l e) ∙ extended-same w ys),

@@ -5,3 +5,4 @@ pub mod Meaning
 pub mod Adding
 pub mod Multiplying
 pub mod Comparing
+pub mod Choosing
