@@ -5,11 +5,11 @@ use mathlib.Core.List.{List, [], _∷_, map}
 use Prim.Native.Nat.{ℕ, suc, _+_, _*_, _≤_, _<_}
 use native.Mathlib.Omega.{arith}
 use lib.ListN.{length, length-map}
-use lib.IntN.{pos, negℤ, _+ℤ_, _-ℤ_, +ℤ-idr, +ℤ-assoc}
+use lib.IntN.{ℤ, pos, negℤ, _+ℤ_, _-ℤ_, +ℤ-idr, +ℤ-assoc}
 use Rattle.whole.specs.Bits.{bit, toInt, extended}
 use Rattle.whole.proofs.Differences.{dif-eq, dif-pos, dif-neg, dif-add}
-use Rattle.whole.proofs.Bits.{up, down, toInt-dif, bit-not}
-use Rattle.whole.proofs.Extended.{Upto, extendedTail, extendedTail-length, wider, extended-wider, extended-map, extended-same}
+use Rattle.whole.proofs.Bits.{Stands, up, down, toInt-dif, bit-not}
+use Rattle.whole.proofs.Extended.{extendedTail, extendedTail-length, wider, extended-wider, extended-map, extended-same}
 use Rattle.circuit.specs.Literals.{Lit, Assignment, litTrue}
 use Rattle.circuit.specs.Gates.{xorOf, majOf}
 use Rattle.circuit.specs.Numbers.{adder}
@@ -65,20 +65,23 @@ wider-exact c x xs y ys e =
     dif-eq (toInt-dif (adderBits c (wider x xs) (wider y ys))) (dif-add (dif-add (toInt-dif (x ∷ xs)) (toInt-dif (y ∷ ys))) (dif-pos (bit c))) (omega arith)
 
 -- two numbers no wider than w: in w + 1 places the sum with the carry is exact
-adder-exact : (c : Bool) {xs ys : List Bool} {w : ℕ} → Upto w xs → Upto w ys
-    → toInt (adderBits c (extended (suc w) xs) (extended (suc w) ys)) ≡ toInt xs +ℤ toInt ys +ℤ pos (bit c)
-adder-exact c {xs = []} {ys} p q = absurd (omega arith)
-adder-exact c {xs = x ∷ xs} {ys = []} p q = absurd (omega arith)
-adder-exact c {xs = x ∷ xs} {ys = y ∷ ys} {w} p q =
-    let e = extendedTail-length w x xs (p .most) in
-    let f = extendedTail-length w y ys (q .most) in
-    ap₂ (λ a b. toInt (adderBits c a b)) (extended-wider w x xs (p .most)) (extended-wider w y ys (q .most))
-    ∙ wider-exact c x (extendedTail w x xs) y (extendedTail w y ys) (omega arith)
-    ∙ ap₂ (λ a b. a +ℤ b +ℤ pos (bit c)) (extended-same w (x ∷ xs)) (extended-same w (y ∷ ys))
+adder-exact : (c : Bool) (w : ℕ) {xs ys : List Bool} {x y : ℤ} → Stands xs x → Stands ys y → length xs ≤ w → length ys ≤ w
+    → Stands (adderBits c (extended (suc w) xs) (extended (suc w) ys)) (x +ℤ y +ℤ pos (bit c))
+adder-exact c w {xs = []} a b h k = absurd (omega arith)
+adder-exact c w {xs = x ∷ xs} {ys = []} a b h k = absurd (omega arith)
+adder-exact c w {xs = x ∷ xs} {ys = y ∷ ys} a b h k =
+    let e = extendedTail-length w x xs h in
+    let f = extendedTail-length w y ys k in
+    record {
+      some = omega arith;
+      is = ap₂ (λ m n. toInt (adderBits c m n)) (extended-wider w x xs h) (extended-wider w y ys k)
+          ∙ wider-exact c x (extendedTail w x xs) y (extendedTail w y ys) (omega arith)
+          ∙ ap₂ (λ m n. m +ℤ n +ℤ pos (bit c)) (extended-same w (x ∷ xs) ∙ a .is) (extended-same w (y ∷ ys) ∙ b .is);
+    }
 
-pub sum-exact : {xs ys : List Bool} {w : ℕ} → Upto w xs → Upto w ys
-    → toInt (adderBits false (extended (suc w) xs) (extended (suc w) ys)) ≡ toInt xs +ℤ toInt ys
-sum-exact p q = adder-exact false p q ∙ +ℤ-idr _
+pub sum-exact : (w : ℕ) {xs ys : List Bool} {x y : ℤ} → Stands xs x → Stands ys y → length xs ≤ w → length ys ≤ w
+    → Stands (adderBits false (extended (suc w) xs) (extended (suc w) ys)) (x +ℤ y)
+sum-exact w {x = x} {y = y} a b h k = rw (+ℤ-idr (x +ℤ y)) at (adder-exact false w a b h k)
 
 -- every bit turned is -1 less the number
 turned-places : (b : Bool) (bs : List Bool) → up (map not (b ∷ bs)) + up (b ∷ bs) + 1 ≡ down (map not (b ∷ bs)) + down (b ∷ bs)
@@ -86,17 +89,18 @@ turned-places true [] = refl
 turned-places false [] = refl
 turned-places b (c ∷ bs) = let ih = turned-places c bs in let h = bit-not b in omega arith
 
-turned : (bs : List Bool) → 0 < length bs → toInt (map not bs) +ℤ pos 1 ≡ negℤ (toInt bs)
-turned [] p = absurd (omega arith)
-turned (b ∷ bs) p =
+turned : {bs : List Bool} {z : ℤ} → Stands bs z → toInt (map not bs) +ℤ pos 1 ≡ negℤ z
+turned {bs = []} a = absurd (omega arith)
+turned {bs = b ∷ bs} a =
     let h = turned-places b bs in
-    dif-eq (dif-add (toInt-dif (map not (b ∷ bs))) (dif-pos 1)) (dif-neg (toInt-dif (b ∷ bs))) (omega arith)
+    dif-eq (dif-add (toInt-dif (map not (b ∷ bs))) (dif-pos 1)) (dif-neg (toInt-dif (b ∷ bs))) (omega arith) ∙ ap negℤ (a .is)
 
-pub difference-exact : {xs ys : List Bool} {w : ℕ} → Upto w xs → Upto w ys
-    → toInt (adderBits true (extended (suc w) xs) (map not (extended (suc w) ys))) ≡ toInt xs -ℤ toInt ys
-difference-exact {xs} {ys} {w} p q =
-    let q₁ : Upto w (map not ys) = record { some = rw (length-map ys not) (q .some); most = rw (length-map ys not) (q .most) } in
-    rw (extended-map not (suc w) ys, ← turned ys (q .some)) (adder-exact true p q₁ ∙ +ℤ-assoc (toInt xs) (toInt (map not ys)) (pos 1))
+pub difference-exact : (w : ℕ) {xs ys : List Bool} {x y : ℤ} → Stands xs x → Stands ys y → length xs ≤ w → length ys ≤ w
+    → Stands (adderBits true (extended (suc w) xs) (map not (extended (suc w) ys))) (x -ℤ y)
+difference-exact w {xs} {ys} {x} {y} a b h k =
+    let l : length (map not ys) ≡ length ys = length-map ys not in
+    let t : Stands (map not ys) (toInt (map not ys)) = record { some = omega arith; is = refl } in
+    rw (extended-map not (suc w) ys, ← turned b, ← +ℤ-assoc x (toInt (map not ys)) (pos 1)) (adder-exact true w a t h (omega arith))
 
 pub adder-sem : (s : Assignment) (l : List Bool) (carry : Lit) (xs ys : List Lit)
     → Sem s l (adder carry xs ys) l (λ r. values s r ≡ adderBits (litTrue s carry) (values s xs) (values s ys))

@@ -5,9 +5,11 @@ use mathlib.Core.List.{List, [], _∷_}
 use Prim.Native.Nat.{ℕ, _≤_, _<_}
 use native.Mathlib.Omega.{arith}
 use lib.ListN.{length}
+use lib.IntN.{ℤ}
 use Rattle.whole.specs.Tests.{if_then_else_}
-use Rattle.whole.specs.Bits.{toInt, extended}
-use Rattle.whole.proofs.Extended.{Upto, extended-length, extended-same}
+use Rattle.whole.specs.Bits.{extended}
+use Rattle.whole.proofs.Bits.{Stands}
+use Rattle.whole.proofs.Extended.{extended-length, extended-same}
 use Rattle.circuit.specs.Literals.{Lit, Assignment, litTrue}
 use Rattle.circuit.specs.Gates.{muxOf}
 use Rattle.circuit.specs.Numbers.{muxes}
@@ -18,28 +20,27 @@ muxBits c [] ys = []
 muxBits c (x ∷ xs) [] = []
 muxBits c (x ∷ xs) (y ∷ ys) = muxOf c x y ∷ muxBits c xs ys
 
-mux-first : (xs ys : List Bool) → length xs ≡ length ys → muxBits true xs ys ≡ xs
-mux-first [] ys e = refl
-mux-first (x ∷ xs) [] e = absurd (omega arith)
-mux-first (x ∷ xs) (y ∷ ys) e = ap (λ bs. x ∷ bs) (mux-first xs ys (omega arith))
+muxBits-is : (c : Bool) (xs ys : List Bool) → length xs ≡ length ys → muxBits c xs ys ≡ if c then xs else ys
+muxBits-is true [] [] e = refl
+muxBits-is false [] [] e = refl
+muxBits-is c [] (y ∷ ys) e = absurd (omega arith)
+muxBits-is c (x ∷ xs) [] e = absurd (omega arith)
+muxBits-is true (x ∷ xs) (y ∷ ys) e = ap (λ bs. x ∷ bs) (muxBits-is true xs ys (omega arith))
+muxBits-is false (x ∷ xs) (y ∷ ys) e = ap (λ bs. y ∷ bs) (muxBits-is false xs ys (omega arith))
 
-mux-second : (xs ys : List Bool) → length xs ≡ length ys → muxBits false xs ys ≡ ys
-mux-second [] [] e = refl
-mux-second [] (y ∷ ys) e = absurd (omega arith)
-mux-second (x ∷ xs) [] e = absurd (omega arith)
-mux-second (x ∷ xs) (y ∷ ys) e = ap (λ bs. y ∷ bs) (mux-second xs ys (omega arith))
-
-pub muxBits-length : (c : Bool) (xs ys : List Bool) → length xs ≡ length ys → length (muxBits c xs ys) ≡ length xs
-muxBits-length true xs ys e = ap length (mux-first xs ys e)
-muxBits-length false xs ys e = ap length (mux-second xs ys e) ∙ sym e
-
-pub choice-exact : (c : Bool) {xs ys : List Bool} {w : ℕ} → Upto w xs → Upto w ys
-    → toInt (muxBits c (extended w xs) (extended w ys)) ≡ if c then toInt xs else toInt ys
-choice-exact c {xs} {ys} {w} p q = pick c (extended-length w xs (p .some) (p .most) ∙ sym (extended-length w ys (q .some) (q .most)))
+pub choice-exact : (c : Bool) (w : ℕ) {xs ys : List Bool} {x y : ℤ} → Stands xs x → Stands ys y → length xs ≤ w → length ys ≤ w
+    → Stands (muxBits c (extended w xs) (extended w ys)) (if c then x else y)
+choice-exact c w {xs} {ys} {x} {y} a b h k = rw (muxBits-is c (extended w xs) (extended w ys) (lx ∙ sym ly)) (chosen c)
   where
-    pick : (c : Bool) → length (extended w xs) ≡ length (extended w ys) → toInt (muxBits c (extended w xs) (extended w ys)) ≡ if c then toInt xs else toInt ys
-    pick true e = ap toInt (mux-first (extended w xs) (extended w ys) e) ∙ extended-same w xs
-    pick false e = ap toInt (mux-second (extended w xs) (extended w ys) e) ∙ extended-same w ys
+    lx : length (extended w xs) ≡ w
+    lx = extended-length w xs (a .some) h
+
+    ly : length (extended w ys) ≡ w
+    ly = extended-length w ys (b .some) k
+
+    chosen : (c : Bool) → Stands (if c then extended w xs else extended w ys) (if c then x else y)
+    chosen true = record { some = omega (arith, a .some, lx, h); is = extended-same w xs ∙ a .is }
+    chosen false = record { some = omega (arith, b .some, ly, k); is = extended-same w ys ∙ b .is }
 
 pub muxes-sem : (s : Assignment) (l : List Bool) (c : Lit) (xs ys : List Lit)
     → Sem s l (muxes c xs ys) l (λ r. values s r ≡ muxBits (litTrue s c) (values s xs) (values s ys))

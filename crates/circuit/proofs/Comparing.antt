@@ -7,13 +7,14 @@ use Prim.Native.Nat.{ℕ, suc, _+_, _*_, _≤_, _<_}
 use native.Mathlib.Omega.{arith}
 use lib.Dec.{T}
 use lib.ListN.{length}
+use lib.IntN.{ℤ}
 use lib.Signed.{ltZ}
 use Rattle.whole.specs.Tests.{eqZ}
 use Rattle.whole.specs.Bits.{bit, toInt, extended}
 use Rattle.whole.proofs.Differences.{dif-lt}
 use Rattle.whole.proofs.Tests.{same-passing, same-true, eqZ-iff}
-use Rattle.whole.proofs.Bits.{up, down, toInt-dif, toInt-inj}
-use Rattle.whole.proofs.Extended.{Upto, extended-length, extendedTail, extendedTail-length, extended-same}
+use Rattle.whole.proofs.Bits.{Stands, up, down, toInt-dif, toInt-inj}
+use Rattle.whole.proofs.Extended.{extended-length, extendedTail, extendedTail-length, extended-same}
 use Rattle.circuit.specs.Literals.{Lit, Assignment, litTrue}
 use Rattle.circuit.specs.Gates.{xorOf, muxOf}
 use Rattle.circuit.specs.Numbers.{greaterFrom, equalFrom}
@@ -64,13 +65,15 @@ greater-is x xs y ys e =
     let numbers = dif-lt (toInt-dif (y ∷ ys)) (toInt-dif (x ∷ xs)) in
     same-passing (λ t. let h = bits .0 t in numbers .1 (omega arith), λ t. let h = numbers .0 t in bits .1 (omega arith))
 
-pub greater-exact : {xs ys : List Bool} {w : ℕ} → Upto w xs → Upto w ys → greaterBits false (extended w xs) (extended w ys) ≡ ltZ (toInt ys) (toInt xs)
-greater-exact {xs = []} {ys} p q = absurd (omega arith)
-greater-exact {xs = x ∷ xs} {ys = []} p q = absurd (omega arith)
-greater-exact {xs = x ∷ xs} {ys = y ∷ ys} {w} p q =
-    let e = extendedTail-length w x xs (p .most) in
-    let f = extendedTail-length w y ys (q .most) in
-    greater-is x (extendedTail w x xs) y (extendedTail w y ys) (omega arith) ∙ ap₂ ltZ (extended-same w (y ∷ ys)) (extended-same w (x ∷ xs))
+pub greater-exact : (w : ℕ) {xs ys : List Bool} {x y : ℤ} → Stands xs x → Stands ys y → length xs ≤ w → length ys ≤ w
+    → greaterBits false (extended w xs) (extended w ys) ≡ ltZ y x
+greater-exact w {xs = []} a b h k = absurd (omega arith)
+greater-exact w {xs = x ∷ xs} {ys = []} a b h k = absurd (omega arith)
+greater-exact w {xs = x ∷ xs} {ys = y ∷ ys} a b h k =
+    let e = extendedTail-length w x xs h in
+    let f = extendedTail-length w y ys k in
+    greater-is x (extendedTail w x xs) y (extendedTail w y ys) (omega arith)
+    ∙ ap₂ ltZ (extended-same w (y ∷ ys) ∙ b .is) (extended-same w (x ∷ xs) ∙ a .is)
 
 abbrev pub equalBits : (e : Bool) → List Bool → List Bool → Bool
 equalBits e [] ys = e
@@ -96,13 +99,15 @@ equal-self [] = refl
 equal-self (true ∷ xs) = equal-self xs
 equal-self (false ∷ xs) = equal-self xs
 
-pub equal-exact : {xs ys : List Bool} {w : ℕ} → Upto w xs → Upto w ys → equalBits true (extended w xs) (extended w ys) ≡ eqZ (toInt xs) (toInt ys)
-equal-exact {xs} {ys} {w} p q =
-    let l = extended-length w xs (p .some) (p .most) ∙ sym (extended-length w ys (q .some) (q .most)) in
-    let i = eqZ-iff (toInt xs) (toInt ys) in
+pub equal-exact : (w : ℕ) {xs ys : List Bool} {x y : ℤ} → Stands xs x → Stands ys y → length xs ≤ w → length ys ≤ w
+    → equalBits true (extended w xs) (extended w ys) ≡ eqZ x y
+equal-exact w {xs} {ys} {x} {y} a b h k =
+    let l = extended-length w xs (a .some) h ∙ sym (extended-length w ys (b .some) k) in
+    let m : toInt (extended w xs) ≡ x = extended-same w xs ∙ a .is in
+    let n : toInt (extended w ys) ≡ y = extended-same w ys ∙ b .is in
     same-true (
-      λ e. i .1 (sym (extended-same w xs) ∙ ap toInt (equal-bits (extended w xs) (extended w ys) l e) ∙ extended-same w ys),
-      λ e. rw (toInt-inj (extended w xs) (extended w ys) l (extended-same w xs ∙ i .0 e ∙ sym (extended-same w ys))) (equal-self (extended w ys)),
+      λ e. eqZ-iff x y .1 (sym m ∙ ap toInt (equal-bits (extended w xs) (extended w ys) l e) ∙ n),
+      λ e. rw (toInt-inj (extended w xs) (extended w ys) l (m ∙ eqZ-iff x y .0 e ∙ sym n)) (equal-self (extended w ys)),
     )
 
 pub greaterFrom-sem : (s : Assignment) (l : List Bool) (g : Lit) (xs ys : List Lit)

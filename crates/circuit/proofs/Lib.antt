@@ -6,3 +6,4 @@ pub mod Adding
 pub mod Multiplying
 pub mod Comparing
 pub mod Choosing
+pub mod Reading

@@ -11,7 +11,7 @@ use lib.Pow.{pow-add}
 use lib.IntN.{ℤ, pos, negsuc, negℤ, _*ℤ_}
 use lib.Signed.{mag}
 use Rattle.whole.specs.Bits.{bit, toInt, extended}
-use Rattle.whole.proofs.Bits.{Below, toInt-below, val}
+use Rattle.whole.proofs.Bits.{Below, Stands, toInt-below, val}
 use Rattle.whole.proofs.Extended.{extended-length, extended-same}
 use Rattle.whole.proofs.Residues.{Congruent, congruent-refl, congruent-trans, congruent-to, congruent-add, congruent-double}
 use Rattle.whole.proofs.Residues.{residue-shift, residue-mul, residue-near, bits-residue}
@@ -54,7 +54,7 @@ addRowsBits-length (y ∷ ys) xs (t ∷ total) h =
     let l = total-length xs total y (omega arith) in
     ap suc (addRowsBits-length ys xs (adderBits false total (andsBits (length total) xs y)) (omega arith) ∙ l)
 
-pub multiplierBits-length : (xs ys : List Bool) → 0 < length ys → length (multiplierBits xs ys) ≡ length xs
+multiplierBits-length : (xs ys : List Bool) → 0 < length ys → length (multiplierBits xs ys) ≡ length xs
 multiplierBits-length xs [] p = absurd (omega arith)
 multiplierBits-length xs (y ∷ ys) p =
     let l = andsBits-length (length xs) xs y (omega arith) in
@@ -129,21 +129,24 @@ multiplier-exact k xs ys e f h =
     let there = residue-mul (rw e at (bits-residue xs)) (rw f at (bits-residue ys)) in
     residue-near (2 ^ k) (pow-suc 2 k) here there (toInt-below k (multiplierBits xs ys) l) h
 
-pub product-exact : (xs ys : List Bool) → 0 < length xs → 0 < length ys
-    → toInt (multiplierBits (extended (length xs + length ys) xs) (extended (length xs + length ys) ys)) ≡ toInt xs *ℤ toInt ys
-product-exact [] ys p q = absurd (omega arith)
-product-exact (x ∷ xs) [] p q = absurd (omega arith)
-product-exact (x ∷ xs) (y ∷ ys) p q =
-    let w : ℕ = length (x ∷ xs) + length (y ∷ ys) in
-    let e : w ≡ suc (suc (length xs + length ys)) = omega arith in
+pub product-exact : (w : ℕ) {xs ys : List Bool} {x y : ℤ} → Stands xs x → Stands ys y → w ≡ length xs + length ys
+    → Stands (multiplierBits (extended w xs) (extended w ys)) (x *ℤ y)
+product-exact w {xs = []} a b e = absurd (omega arith)
+product-exact w {xs = x ∷ xs} {ys = []} a b e = absurd (omega arith)
+product-exact w {xs = x ∷ xs} {ys = y ∷ ys} a b e =
     let fx : toInt (extended w (x ∷ xs)) ≡ toInt (x ∷ xs) = extended-same w (x ∷ xs) in
     let fy : toInt (extended w (y ∷ ys)) ≡ toInt (y ∷ ys) = extended-same w (y ∷ ys) in
+    let lx : length (extended w (x ∷ xs)) ≡ w = extended-length w (x ∷ xs) (a .some) (omega arith) in
+    let ly : length (extended w (y ∷ ys)) ≡ w = extended-length w (y ∷ ys) (b .some) (omega arith) in
     let bx = toInt-below (length xs) (x ∷ xs) refl in
     let by = toInt-below (length ys) (y ∷ ys) refl in
-    let b = product-below (length xs) (length ys) (toInt (x ∷ xs)) (toInt (y ∷ ys)) bx by in
-    multiplier-exact (suc (length xs + length ys)) (extended w (x ∷ xs)) (extended w (y ∷ ys))
-    (extended-length w (x ∷ xs) p (omega arith) ∙ e) (extended-length w (y ∷ ys) q (omega arith) ∙ e) (rw (fx, fy) b)
-    ∙ ap₂ _*ℤ_ fx fy
+    let small = product-below (length xs) (length ys) (toInt (x ∷ xs)) (toInt (y ∷ ys)) bx by in
+    let l = multiplierBits-length (extended w (x ∷ xs)) (extended w (y ∷ ys)) (omega arith) in
+    record {
+      some = omega arith;
+      is = multiplier-exact (suc (length xs + length ys)) (extended w (x ∷ xs)) (extended w (y ∷ ys)) (omega arith) (omega arith) (rw (fx, fy) small)
+          ∙ ap₂ _*ℤ_ (fx ∙ a .is) (fy ∙ b .is);
+    }
 
 pub ands-sem : (s : Assignment) (l : List Bool) (n : ℕ) (xs : List Lit) (y : Lit)
     → Sem s l (ands n xs y) l (λ r. values s r ≡ andsBits n (values s xs) (litTrue s y))

@@ -35,6 +35,11 @@ below-fits {k} {z} f =
     let e : suc k - 1 ≡ k = omega arith in
     within (2 ^ k) z .1 (rw e at (f .low), rw e at (f .high))
 
+-- bits that stand for a number: at least the sign is there
+pub record Stands (bs : List Bool) (z : ℤ) : Type 0 where
+  pub some : 0 < length bs
+  pub is : toInt bs ≡ z
+
 -- toInt by naturals: what counts up, and what counts down
 abbrev pub up : List Bool → ℕ
 up [] = 0

@@ -9,11 +9,6 @@ use Rattle.whole.specs.Bits.{toInt, lastOf, extended}
 use Rattle.whole.proofs.Bits.{more-signs}
 
 module _ {A : Type 0} where
-  -- one place or more, and no more than w
-  pub record Upto (w : ℕ) (xs : List A) : Type 0 where
-    pub some : 0 < length xs
-    pub most : length xs ≤ w
-
   pub extended-length : (w : ℕ) (xs : List A) → 0 < length xs → length xs ≤ w → length (extended w xs) ≡ w
   extended-length w [] p h = absurd (omega arith)
   extended-length w (x ∷ xs) p h = simp (length-append, length-replicate) (omega arith)
