@@ -1,5 +1,13 @@
--- The laws of literals, gates and circuits. Assumes nothing.
+-- The laws of gates and circuits: what they mean, then what they count. Assumes nothing.
+pub mod Gates
 pub mod Wellformed
+pub mod Assignments
+pub mod Meaning
+pub mod Adding
+pub mod Multiplying
+pub mod Comparing
+pub mod Choosing
+pub mod Reading
 pub mod Bounds
 pub mod Costs
 pub mod Lengths

@@ -1,4 +1,8 @@
 -- The laws of whole numbers and bits. Assumes nothing.
 pub mod Differences
-pub mod Divisors
+pub mod Tests
+pub mod Bits
+pub mod Extended
+pub mod Residues
 pub mod Ranges
+pub mod Divisors
