@@ -1,4 +1,6 @@
 -- The worked examples, and the laws of a sheet. Assumes nothing.
 pub mod Examples
 pub mod Accepted
+pub mod Tested
 pub mod Counted
+pub mod Meant

@@ -30,24 +30,17 @@ abbrev pub cell : List Lit → ℕ → Cell
 cell ls d = record { literals = ls; denominator = d }
 
 abbrev pub booleanCell : Circuit Lit → Circuit Cell
-booleanCell c = do
-  l ← c
-  ret (cell (l ∷ []) 1)
+booleanCell c = c >>= λ l. ret (cell (l ∷ []) 1)
 
 abbrev pub numberCell : (denominator : ℕ) → Circuit (List Lit) → Circuit Cell
-numberCell d c = do
-  ls ← c
-  ret (cell ls d)
+numberCell d c = c >>= λ ls. ret (cell ls d)
 
 abbrev pub negated : Circuit Lit → Circuit Lit
-negated c = do
-  l ← c
-  ret (neg l)
+negated c = c >>= λ l. ret (neg l)
 
+-- a natural's sign is false
 abbrev pub withSign : Circuit (List Lit) → Circuit (List Lit)
-withSign c = do
-  ls ← c
-  ret (ls ++ falsity ∷ [])
+withSign c = c >>= λ ls. ret (ls ++ falsity ∷ [])
 
 module _ (earlier : List Cell) where
   abbrev pub cellAt : ℕ → Cell
