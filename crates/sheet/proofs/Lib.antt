@@ -1,3 +1,4 @@
 -- The worked examples, and the laws of a sheet. Assumes nothing.
 pub mod Examples
 pub mod Accepted
+pub mod Fractions

@@ -2,3 +2,4 @@
 pub mod Differences
 pub mod Divisors
 pub mod Ranges
+pub mod Scaling
