@@ -2,3 +2,4 @@
 pub mod Examples
 pub mod Accepted
 pub mod Fractions
+pub mod Widths
