@@ -26,7 +26,7 @@ use Rattle.sheet.specs.Values.{Value, boolean, fraction, numerator, deno
 use Rattle.sheet.specs.Acceptance.{outside, outOfRange, some, missing, sort, meeting, widthOver, planBy, recordBy}
 use Rattle.sheet.proofs.Accepted.{Passes}
 
--- ---- a record holds its row's value
+-- ---- a row's record holds its value
 
 pub record HoldsNumber (r : Record) (n : ℤ) (d : ℕ) : Type 0 where
   pub sort : r .sort ≡ 1
@@ -136,7 +136,7 @@ module _ (earlier : List Record) (values : List Value) (h : AllHold earlier valu
         → HoldsNumber (record { sort = 1; width = w; denominator = meeting earlier x y; first = first; slots = slots }) n (shared values x y)
     of-pair wide fits = record { sort = refl; fits = fits; denominator = meeting-is; wide = wide; positive = shared-pos }
 
-  -- by kinds, of fields that are variables: what a row's own field is cannot be told apart
+  -- by kinds, with the fields as variables, because a field of a row cannot be matched
   kind-fits : (k : Kind) (p x y z : ℕ) → outOfRange (uses k) p x z ≡ false → some (λ s r. not (eqb (sort earlier r) s)) (uses k) x y z ≡ false
       → (first : ℕ) (v : ℤ) → inBits (uses k) p v ≡ true → Holds (recordBy first (planBy earlier k p x y z)) (valueBy values k p x y z v)
   kind-fits BooleanConstant p x y z ranged sorted first v inside = (refl, refl)
