@@ -1,7 +1,7 @@
 -- Row by row: a row's literals have the width of its record, and the variables, clauses and slots that its steps make are those
 -- that acceptance counts. Assumes nothing.
 use mathlib.Core.Path.{_≡_, refl, sym, _∙_, ap₂, subst, subst₂}
-use mathlib.Core.Bool.{Bool, true, false, _||_, false≢true}
+use mathlib.Core.Bool.{Bool, true, false}
 use mathlib.Core.List.{List, [], _∷_, _++_}
 use Prim.Native.Nat.{ℕ, zero, suc, _+_, _*_, _/_, _≤_, _<_, max}
 use native.Mathlib.Omega.{arith}
@@ -26,6 +26,7 @@ use Rattle.sheet.specs.Rows.{constantIn, Uses, aFlag, aBoolean, aNatural
 use Rattle.sheet.specs.Acceptance.{outside, outOfRange, booleanPlan, numberPlan, missing, width, den, meeting, widthOver, larger, bringing, planBy, recordBy}
 use Rattle.sheet.specs.Steps.{Cell, cell, booleanCell, numberCell, negated, withSign, cellAt, bits, lit, below, least, brought, stepsBy, rowSteps}
 use Rattle.sheet.proofs.Accepted.{Passes}
+use Rattle.sheet.proofs.Tested.{neither, at-least}
 
 -- a row's cell has its record's width and denominator, and names the first n variables only
 pub record CellFor (n : ℕ) (r : Record) (c : Cell) : Type 0 where
@@ -64,11 +65,6 @@ known-named n h false = h
 first-named : (n : ℕ) → 0 < n → (ls : List Lit) → bound ls ≤ n → Names n (getD ls 0 falsity)
 first-named n h [] b = h
 first-named n h (l ∷ ls) b = omega arith
-
--- a number's p is at least 1
-pub in-range : (most p : ℕ) (b : Bool) → (outside 1 most p || b) ≡ false → 0 < p
-in-range most zero b e = absurd (false≢true (sym e))
-in-range most (suc p) b e = omega arith
 
 module _ (n : ℕ) (h : 0 < n) where
   cell-at : (rs : List Record) (cs : List Cell) → CellsFor n rs cs → (x : ℕ) → CellFor n (getD rs x missing) (cellAt cs x)
@@ -132,7 +128,7 @@ module _ (s : State) (h : 0 < s .place) (rs : List Record) (cs : List Cell) (ok 
     cost-by BooleanConstant p x y z o = boolean-cell (ret (known (eqb x 1))) (cost-ret (omega arith, known-named (s .place) h (eqb x 1)))
     cost-by BooleanUnknown p x y z o = boolean-cell (make free) (cost-new tt (cost-ret (omega arith)))
     cost-by NaturalUnknown p x y z o = number-cell (withSign (unknown p)) z z (omega arith) refl (cost-bind (unknown-cost s p) (λ i ls q. cost-ret (q .0, rw (add-one p) (lits-snoc (q .1) falsity (omega arith)))))
-    cost-by IntegerUnknown p x y z o = number-cell (unknown p) z z (in-range 32 p _ o) refl (unknown-cost s p)
+    cost-by IntegerUnknown p x y z o = number-cell (unknown p) z z (at-least 1 32 p (neither (outside 1 32 p) (outside 1 4096 z) o .0)) refl (unknown-cost s p)
     cost-by NumberConstant p x y z o = number-cell (ret (constant (constantIn x y))) z z (omega arith) refl (cost-ret (omega arith, constant-lits (constantIn x y) h))
     cost-by Not p x y z o = boolean-cell (ret (neg (lit cs x))) (cost-ret (omega arith, neg-named x))
     cost-by And p x y z o = boolean-cell (make (and (lit cs x) (lit cs y))) (cost-new (lit-named x, lit-named y) (cost-ret (omega arith)))

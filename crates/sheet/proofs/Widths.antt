@@ -1,30 +1,31 @@
 -- Every row's value fits the width that its record gives, and so does every numerator brought to a common denominator. Assumes nothing.
-use mathlib.Core.Path.{_≡_, refl, sym}
-use mathlib.Core.Bool.{Bool, true, false, not, _||_, false≢true, and-eq-true-iff}
+use mathlib.Core.Path.{_≡_, refl}
+use mathlib.Core.Bool.{Bool, true, false, not}
 use mathlib.Core.List.{List, [], _∷_, _++_}
-use Prim.Native.Nat.{ℕ, zero, suc, _+_, _-_, _^_, _≤_, _<_}
+use Prim.Native.Nat.{ℕ, zero, suc, _+_, _<_}
 use native.Mathlib.Omega.{arith}
 use native.Mathlib.Numerals.{add-one}
 use native.Mathlib.Nat.{mul-pos}
-use lib.Dec.{T, eqb, ltb, leb, nltb→le, ltb→lt, eqb→eq}
+use lib.Dec.{T, eqb, eqb→eq}
 use lib.ListN.{getD}
-use lib.IntN.{ℤ, pos, negsuc, negℤ, _*ℤ_, one, *ℤ-one}
-use lib.Signed.{leZ, ltZ, leZ-yes, ltZ-yes}
+use lib.IntN.{ℤ, pos, _*ℤ_, one, *ℤ-one}
 use Rattle.whole.specs.Tests.{if_then_else_}
 use Rattle.whole.specs.Bits.{Fits, fewest}
 use Rattle.whole.proofs.Divisors.{lcm-pos}
 use Rattle.whole.proofs.Ranges.{natural-fits, sum-fits, difference-fits, choice-fits, product-fits, fewest-fits}
 use Rattle.circuit.specs.Counting.{expandedWidth}
 use Rattle.circuit.specs.declared.Counts.{Counts}
+use Rattle.circuit.proofs.Costs.{expandedWidth-pos}
 use Rattle.sheet.specs.declared.Kind.{Kind}
 use Rattle.sheet.specs.declared.Kind.the-variants.{BooleanConstant, BooleanUnknown, NaturalUnknown, IntegerUnknown, NumberConstant}
 use Rattle.sheet.specs.declared.Kind.the-variants.{Not, And, Or, Implies, Iff, Sum, Difference, Product, Choice, Greater, Equal}
 use Rattle.sheet.specs.declared.Fields.{Fields}
 use Rattle.sheet.specs.declared.Record.{Record}
-use Rattle.sheet.specs.Rows.{constantIn, aNatural, anInteger, uses}
+use Rattle.sheet.specs.Rows.{constantIn, uses}
 use Rattle.sheet.specs.Values.{Value, boolean, fraction, numerator, denominator, valueAt, is, shared, over, valueBy, rowVal, inBits}
 use Rattle.sheet.specs.Acceptance.{outside, outOfRange, some, missing, sort, meeting, widthOver, planBy, recordBy}
 use Rattle.sheet.proofs.Accepted.{Passes}
+use Rattle.sheet.proofs.Tested.{neither, at-least, right-sort, two-sorts, natural-in, integer-in}
 
 -- ---- a row's record holds its value
 
@@ -73,42 +74,6 @@ expansion-fits {w} {x} factor h p = by (eqb factor 1) (λ t. eqb→eq factor 1 t
     by true e = rw (e tt, *ℤ-one x) p
     by false e = product-fits h (omega arith) p (fewest-fits (pos factor))
 
-expansion-wide : {w : ℕ} (factor : ℕ) → 0 < w → 0 < expandedWidth w factor
-unfolding expandedWidth
-expansion-wide {w} factor h = by (eqb factor 1)
-  where
-    by : (b : Bool) → 0 < (if b then w else w + fewest (pos factor))
-    by true = h
-    by false = omega arith
-
--- ---- what the tests of acceptance tell
-
-neither : (a b : Bool) → (a || b) ≡ false → (a ≡ false) × (b ≡ false)
-neither true b e = absurd (false≢true (sym e))
-neither false b e = (refl, e)
-
-at-least : (least most n : ℕ) → outside least most n ≡ false → least ≤ n
-at-least least most n e = nltb→le n least (rw (neither (ltb n least) (ltb most n) e .0) tt)
-
-right-sort : (n s : ℕ) (rest : Bool) → (not (eqb n s) || rest) ≡ false → (n ≡ s) × (rest ≡ false)
-right-sort n s rest = by (eqb n s) (eqb→eq n s)
-  where
-    by : (b : Bool) → (T b → n ≡ s) → (not b || rest) ≡ false → (n ≡ s) × (rest ≡ false)
-    by true f e = (f tt, e)
-    by false f e = absurd (false≢true (sym e))
-
-two-numbers : (m n : ℕ) → (not (eqb m 1) || (not (eqb n 1) || false)) ≡ false → (m ≡ 1) × (n ≡ 1)
-two-numbers m n e = let (isM, rest) = right-sort m 1 (not (eqb n 1) || false) e in (isM, right-sort n 1 false rest .0)
-
-natural-in : (p : ℕ) (v : ℤ) → inBits aNatural p v ≡ true → Fits (p + 1) v
-natural-in p (pos n) e = rw add-one (natural-fits (ltb→lt n (2 ^ p) (rw (and-eq-true-iff (leb 0 n) (ltb n (2 ^ p)) .0 e .1) tt)))
-natural-in p (negsuc n) e = absurd (false≢true e)
-
-integer-in : (p : ℕ) (v : ℤ) → inBits anInteger p v ≡ true → Fits p v
-integer-in p v e =
-    let (low, high) = and-eq-true-iff (leZ (negℤ (pos (2 ^ (p - 1)))) v) (ltZ v (pos (2 ^ (p - 1)))) .0 e in
-    record { low = leZ-yes (rw low tt); high = ltZ-yes (rw high tt) }
-
 -- ---- the rows
 
 module _ (earlier : List Record) (values : List Value) (h : AllHold earlier values) where
@@ -127,7 +92,7 @@ module _ (earlier : List Record) (values : List Value) (h : AllHold earlier valu
         rw (a .denominator, b .denominator) (expansion-fits _ (a .wide) (a .fits), expansion-fits _ (b .wide) (b .fits))
 
     pub pair-wide : (0 < widthOver earlier (meeting earlier x y) x) × (0 < widthOver earlier (meeting earlier x y) y)
-    pair-wide = (expansion-wide _ (number-at x isX .wide), expansion-wide _ (number-at y isY .wide))
+    pair-wide = (expandedWidth-pos _ (number-at x isX .wide), expandedWidth-pos _ (number-at y isY .wide))
 
     shared-pos : 0 < shared values x y
     shared-pos = lcm-pos _ _ (number-at x isX .positive) (number-at y isY .positive)
@@ -142,8 +107,9 @@ module _ (earlier : List Record) (values : List Value) (h : AllHold earlier valu
   kind-fits BooleanConstant p x y z ranged sorted first v inside = (refl, refl)
   kind-fits BooleanUnknown p x y z ranged sorted first v inside = (refl, refl)
   kind-fits NaturalUnknown p x y z ranged sorted first v inside =
+      let (n, e, small) = natural-in p v inside in
       let (bits, den) = neither (outside 1 31 p) (outside 1 4096 z) ranged in
-      record { sort = refl; fits = natural-in p v inside; denominator = refl; wide = omega arith; positive = at-least 1 4096 z den }
+      record { sort = refl; fits = rw (e, add-one p) (natural-fits small); denominator = refl; wide = omega arith; positive = at-least 1 4096 z den }
   kind-fits IntegerUnknown p x y z ranged sorted first v inside =
       let (bits, den) = neither (outside 1 32 p) (outside 1 4096 z) ranged in
       record { sort = refl; fits = integer-in p v inside; denominator = refl; wide = at-least 1 32 p bits; positive = at-least 1 4096 z den }
@@ -155,17 +121,17 @@ module _ (earlier : List Record) (values : List Value) (h : AllHold earlier valu
   kind-fits Implies p x y z ranged sorted first v inside = (refl, refl)
   kind-fits Iff p x y z ranged sorted first v inside = (refl, refl)
   kind-fits Sum p x y z ranged sorted first v inside =
-      let (isX, isY) = two-numbers (sort earlier x) (sort earlier y) sorted in
+      let (isX, isY) = two-sorts (sort earlier x) 1 (sort earlier y) 1 sorted in
       let (a, b) = pair-fits x y isX isY in
       let (wideA, wideB) = pair-wide x y isX isY in
       of-pair x y isX isY (omega arith) (rw add-one (sum-fits wideA wideB a b))
   kind-fits Difference p x y z ranged sorted first v inside =
-      let (isX, isY) = two-numbers (sort earlier x) (sort earlier y) sorted in
+      let (isX, isY) = two-sorts (sort earlier x) 1 (sort earlier y) 1 sorted in
       let (a, b) = pair-fits x y isX isY in
       let (wideA, wideB) = pair-wide x y isX isY in
       of-pair x y isX isY (omega arith) (rw add-one (difference-fits wideA wideB a b))
   kind-fits Product p x y z ranged sorted first v inside =
-      let (isX, isY) = two-numbers (sort earlier x) (sort earlier y) sorted in
+      let (isX, isY) = two-sorts (sort earlier x) 1 (sort earlier y) 1 sorted in
       let a = number-at x isX in
       let b = number-at y isY in
       record {
@@ -176,7 +142,7 @@ module _ (earlier : List Record) (values : List Value) (h : AllHold earlier valu
         positive = mul-pos (a .positive) (b .positive);
       }
   kind-fits Choice p x y z ranged sorted first v inside =
-      let (isY, isZ) = two-numbers (sort earlier y) (sort earlier z) (right-sort (sort earlier x) 0 _ sorted .1) in
+      let (isY, isZ) = two-sorts (sort earlier y) 1 (sort earlier z) 1 (right-sort (sort earlier x) 0 _ sorted .1) in
       let (a, b) = pair-fits y z isY isZ in
       let (wideA, wideB) = pair-wide y z isY isZ in
       of-pair y z isY isZ (omega arith) (choice-fits (is values x) a b)
