@@ -9,7 +9,7 @@ use lib.Dec.{eqb}
 use lib.ListN.{length, replicate, length-append, length-map, length-replicate}
 use lib.IntN.{ℤ, pos}
 use Rattle.whole.specs.Tests.{if_then_else_}
-use Rattle.whole.specs.Bits.{fewest}
+use Rattle.whole.specs.Bits.{bit, fewest}
 use Rattle.circuit.specs.declared.Counts.{Counts}
 use Rattle.circuit.specs.Literals.{slot, slotsOf}
 use Rattle.circuit.specs.Gates.{fixed}
@@ -22,7 +22,7 @@ use Rattle.sheet.specs.declared.Kind.{Kind}
 use Rattle.sheet.specs.declared.Kind.the-variants.{BooleanConstant, BooleanUnknown, NaturalUnknown, IntegerUnknown, NumberConstant, Not, And, Or, Implies, Iff, Sum, Difference, Product, Choice, Greater, Equal}
 use Rattle.sheet.specs.declared.Fields.{Fields}
 use Rattle.sheet.specs.declared.Record.{Record}
-use Rattle.sheet.specs.Rows.{Uses, aFlag, aBoolean, aNatural, anInteger, aConstant, theRows, uses, asks}
+use Rattle.sheet.specs.Rows.{uses, isUnknown}
 use Rattle.sheet.specs.Values.{unknowns}
 use Rattle.sheet.specs.Acceptance.{width, den, meeting, bringing, planBy, accepted, Sheet, accept}
 use Rattle.sheet.specs.Steps.{Cell, page, pages, stepsFrom, steps, cells, clausesButLast, lastClause, clauses, slotsFor, mapFor}
@@ -101,7 +101,7 @@ expansion-asks w f = go (eqb f 1)
 bringing-asks : (rs : List Record) (x y : ℕ) → bringing rs x y .unknowns ≡ 0
 bringing-asks rs x y = omega (arith, expansion-asks (width rs x) (meeting rs x y / den rs x), expansion-asks (width rs y) (meeting rs x y / den rs y))
 
-plan-asks : (rs : List Record) (k : Kind) (p x y z : ℕ) → planBy rs k p x y z .counts .unknowns ≡ asks (uses k)
+plan-asks : (rs : List Record) (k : Kind) (p x y z : ℕ) → planBy rs k p x y z .counts .unknowns ≡ bit (isUnknown (uses k))
 unfolding aProduct
 plan-asks rs BooleanConstant p x y z = refl
 plan-asks rs BooleanUnknown p x y z = refl
@@ -120,21 +120,17 @@ plan-asks rs Choice p x y z = omega (arith, bringing-asks rs y z)
 plan-asks rs Greater p x y z = omega (arith, bringing-asks rs x y)
 plan-asks rs Equal p x y z = omega (arith, bringing-asks rs x y)
 
-one-more : (u : Uses) (f : Fields) (rows : List Fields) → length (if eqb (asks u) 1 then f ∷ unknowns rows else unknowns rows) ≡ asks u + length (unknowns rows)
-one-more aFlag f rows = omega arith
-one-more aBoolean f rows = omega arith
-one-more aNatural f rows = omega arith
-one-more anInteger f rows = omega arith
-one-more aConstant f rows = omega arith
-one-more (theRows sorts) f rows = omega arith
+one-more : (b : Bool) (f : Fields) (fs : List Fields) → length (if b then f ∷ fs else fs) ≡ bit b + length fs
+one-more true f fs = omega arith
+one-more false f fs = omega arith
 
 unknowns-counted : (rows : List Fields) (rs : List Record) (so : Counts) (records : List Record) (total : Counts) → Passed rs so rows records total
     → total .unknowns ≡ so .unknowns + length (unknowns rows)
 unknowns-counted [] rs so records total p = let e = ap (λ (k : Counts). k .unknowns) (p .1) in omega arith
 unknowns-counted (f ∷ rows) rs so records total p =
     let ih = unknowns-counted rows (rs ++ p .0 ∷ []) (so ⊕ p .1) records total (p .3) in
-    let e : p .1 .unknowns ≡ asks (uses (f .kind)) = ap (λ (k : Counts). k .unknowns) (p .2 .isCounts) ∙ plan-asks rs (f .kind) (f .p) (f .x) (f .y) (f .z) in
-    omega (arith, one-more (uses (f .kind)) f rows)
+    let e : p .1 .unknowns ≡ bit (isUnknown (uses (f .kind))) = ap (λ (k : Counts). k .unknowns) (p .2 .isCounts) ∙ plan-asks rs (f .kind) (f .p) (f .x) (f .y) (f .z) in
+    omega (arith, one-more (isUnknown (uses (f .kind))) f (unknowns rows))
 
 -- ---- the records, and the map
 

@@ -1,2 +1,3 @@
 -- Why the promise holds. Assumes nothing.
 pub mod Counts
+pub mod Choices

@@ -103,11 +103,11 @@ constantIn x y = signed (x * 65536 + y)
     signed : ℕ → ℤ
     signed n = if ltb n 0x8000_0000 then pos n else negsuc (0xffff_ffff - n)
 
--- how many values a row asks for: one if it is an unknown
-abbrev pub asks : Uses → ℕ
-asks aFlag = 0
-asks aBoolean = 1
-asks aNatural = 1
-asks anInteger = 1
-asks aConstant = 0
-asks (theRows sorts) = 0
+-- kinds 01, 02 and 03 are the unknowns
+abbrev pub isUnknown : Uses → Bool
+isUnknown aFlag = false
+isUnknown aBoolean = true
+isUnknown aNatural = true
+isUnknown anInteger = true
+isUnknown aConstant = false
+isUnknown (theRows sorts) = false

@@ -7,7 +7,7 @@ use lib.Dec.{eqb}
 use lib.ListN.{length, getD, drop, replicate}
 use lib.IntN.{ℤ, pos}
 use Rattle.whole.specs.Tests.{if_then_else_, eqZ}
-use Rattle.whole.specs.Bits.{toInt, bitsOf}
+use Rattle.whole.specs.Bits.{bit, toInt, bitsOf}
 use Rattle.whole.specs.Divisors.{lcm}
 use Rattle.circuit.specs.Literals.{Lit, neg, truth, falsity, known, Clause, slot, slotsOf, Assignment, litTrue}
 use Rattle.circuit.specs.Gates.{fixed, free, and, xor}
@@ -17,7 +17,7 @@ use Rattle.sheet.specs.declared.Kind.{Kind}
 use Rattle.sheet.specs.declared.Kind.the-variants.{BooleanConstant, BooleanUnknown, NaturalUnknown, IntegerUnknown, NumberConstant, Not, And, Or, Implies, Iff, Sum, Difference, Product, Choice, Greater, Equal}
 use Rattle.sheet.specs.declared.Fields.{Fields}
 use Rattle.sheet.specs.declared.Record.{Record}
-use Rattle.sheet.specs.Rows.{constantIn, Uses, aFlag, aBoolean, aNatural, anInteger, aConstant, theRows, uses, asks}
+use Rattle.sheet.specs.Rows.{constantIn, Uses, aFlag, aBoolean, aNatural, anInteger, aConstant, theRows, uses, isUnknown}
 use Rattle.sheet.specs.Values.{Value, boolean, fraction, numerator}
 use Rattle.sheet.specs.Acceptance.{Sheet, missing}
 
@@ -141,7 +141,7 @@ readRows sheet s = readEach s (sheet .records) (cells (sheet .rows))
 abbrev pub ofUnknowns : List Fields → List Value → List ℤ
 ofUnknowns [] vs = []
 ofUnknowns (f ∷ fs) [] = []
-ofUnknowns (f ∷ fs) (v ∷ vs) = if eqb (asks (uses (f .kind))) 1 then numerator v ∷ ofUnknowns fs vs else ofUnknowns fs vs
+ofUnknowns (f ∷ fs) (v ∷ vs) = if isUnknown (uses (f .kind)) then numerator v ∷ ofUnknowns fs vs else ofUnknowns fs vs
 
 unfoldable pub settings : Sheet → Assignment → List ℤ
 settings sheet s = ofUnknowns (sheet .rows) (readRows sheet s)
@@ -157,7 +157,7 @@ bitsBy (theRows sorts) p v = []
 
 abbrev pub unknownBits : List Fields → List ℤ → List Bool
 unknownBits [] vs = []
-unknownBits (f ∷ rows) vs = bitsBy (uses (f .kind)) (f .p) (getD vs 0 (pos 0)) ++ unknownBits rows (drop (asks (uses (f .kind))) vs)
+unknownBits (f ∷ rows) vs = bitsBy (uses (f .kind)) (f .p) (getD vs 0 (pos 0)) ++ unknownBits rows (drop (bit (isUnknown (uses (f .kind)))) vs)
 
 unfoldable pub extension : List Fields → List ℤ → Assignment
 extension rows vs = run [] (gates 0 (steps rows)) (unknownBits rows vs)

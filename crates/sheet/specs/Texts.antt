@@ -11,7 +11,7 @@ use lib.IntN.{ℤ, pos, natAbs}
 use lib.Signed.{ltZ}
 use Rattle.whole.specs.Tests.{if_then_else_}
 use Rattle.sheet.specs.declared.Fields.{Fields}
-use Rattle.sheet.specs.Rows.{uses, asks}
+use Rattle.sheet.specs.Rows.{uses, isUnknown}
 use Rattle.sheet.specs.Values.{Value, numerator, denominator}
 use Rattle.sheet.specs.Acceptance.{Outcome, refused, accepted, Sheet}
 use Rattle.sheet.specs.Steps.{slotsFor, readRows}
@@ -102,7 +102,7 @@ unfoldable pub settingLines : (i : ℕ) → List Fields → List Value → List 
 settingLines i [] vs = []
 settingLines i (f ∷ rows) [] = []
 settingLines i (f ∷ rows) (v ∷ vs) =
-    (if eqb (asks (uses (f .kind))) 1 then decimal i ++ ascii " " ++ signed (numerator v) ++ ascii " " ++ decimal (denominator v) ++ ascii "\n" else [])
+    (if isUnknown (uses (f .kind)) then decimal i ++ ascii " " ++ signed (numerator v) ++ ascii " " ++ decimal (denominator v) ++ ascii "\n" else [])
     ++ settingLines (i + 1) rows vs
 
 unfoldable pub refusedLine : (number place : ℕ) → List ℕ

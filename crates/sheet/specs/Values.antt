@@ -13,7 +13,7 @@ use Rattle.whole.specs.Divisors.{lcm}
 use Rattle.sheet.specs.declared.Kind.{Kind}
 use Rattle.sheet.specs.declared.Kind.the-variants.{BooleanConstant, BooleanUnknown, NaturalUnknown, IntegerUnknown, NumberConstant, Not, And, Or, Implies, Iff, Sum, Difference, Product, Choice, Greater, Equal}
 use Rattle.sheet.specs.declared.Fields.{Fields}
-use Rattle.sheet.specs.Rows.{constantIn, Uses, aFlag, aBoolean, aNatural, anInteger, aConstant, theRows, uses, asks}
+use Rattle.sheet.specs.Rows.{constantIn, Uses, aFlag, aBoolean, aNatural, anInteger, aConstant, theRows, uses, isUnknown}
 
 -- a truth, or a numerator over a positive denominator
 pub data Value : Type 0 where
@@ -72,7 +72,7 @@ module _ (earlier : List Value) where
 -- the values of all rows, after those of earlier ones; the values chosen are those of the unknowns, in row order
 abbrev pub valuesFrom : List Value → List Fields → List ℤ → List Value
 valuesFrom earlier [] vs = earlier
-valuesFrom earlier (f ∷ rows) vs = valuesFrom (earlier ++ rowVal earlier f (getD vs 0 (pos 0)) ∷ []) rows (drop (asks (uses (f .kind))) vs)
+valuesFrom earlier (f ∷ rows) vs = valuesFrom (earlier ++ rowVal earlier f (getD vs 0 (pos 0)) ∷ []) rows (drop (bit (isUnknown (uses (f .kind)))) vs)
 
 unfoldable pub rowValues : List Fields → List ℤ → List Value
 rowValues rows vs = valuesFrom [] rows vs
@@ -80,7 +80,7 @@ rowValues rows vs = valuesFrom [] rows vs
 -- the unknowns, in row order
 abbrev pub unknowns : List Fields → List Fields
 unknowns [] = []
-unknowns (f ∷ rows) = if eqb (asks (uses (f .kind))) 1 then f ∷ unknowns rows else unknowns rows
+unknowns (f ∷ rows) = if isUnknown (uses (f .kind)) then f ∷ unknowns rows else unknowns rows
 
 -- within the declared bits; a Boolean is 0 or 1
 abbrev pub inBits : Uses → (p : ℕ) → ℤ → Bool
