@@ -1,5 +1,5 @@
 -- A gate's clauses say that its variable has its value: by all rows of the truth table. Assumes nothing.
-use mathlib.Core.Path.{_≡_, refl, sym, _∙_, ap}
+use mathlib.Core.Path.{_≡_, refl, sym, _∙_}
 use mathlib.Core.Logic.{_↔_}
 use mathlib.Core.Bool.{Bool, true, false, not, _&&_, Bool·beq, Bool·not-not, and-eq-true-iff}
 use mathlib.Core.List.{[], _∷_}

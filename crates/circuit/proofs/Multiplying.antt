@@ -148,7 +148,7 @@ product-exact w {xs = x ∷ xs} {ys = y ∷ ys} a b e =
           ∙ ap₂ _*ℤ_ (fx ∙ a .is) (fy ∙ b .is);
     }
 
-pub ands-sem : (s : Assignment) (l : List Bool) (n : ℕ) (xs : List Lit) (y : Lit)
+ands-sem : (s : Assignment) (l : List Bool) (n : ℕ) (xs : List Lit) (y : Lit)
     → Sem s l (ands n xs y) l (λ r. values s r ≡ andsBits n (values s xs) (litTrue s y))
 ands-sem s l zero xs y = sem-ret refl
 ands-sem s l (suc n) [] y = sem-ret refl

@@ -46,8 +46,8 @@ pub unknown-sem : (s : Assignment) (l : List Bool) (p : ℕ) (v : ℤ) → Sem s
 unknown-sem s l zero v = sem-ret refl
 unknown-sem s l (suc p) v = sem-new (λ x ex. sem-bind (unknown-sem s l p (half v)) (λ r er. sem-ret (ap₂ _∷_ ex er)))
 
-pub integer-reads : {s : Assignment} {ls : List Lit} (k : ℕ) (v : ℤ) → Below k v → map (litTrue s) ls ≡ bitsOf (suc k) v → Reads s ls v
-integer-reads k v h e = reads-of e (record { some = omega arith; is = toInt-bitsOf k v h })
+pub integer-reads : (s : Assignment) (ls : List Lit) (k : ℕ) (v : ℤ) → Below k v → map (litTrue s) ls ≡ bitsOf (suc k) v → Reads s ls v
+integer-reads s ls k v h e = reads-of e (record { some = omega arith; is = toInt-bitsOf k v h })
 
 digits-enough : (steps n : ℕ) → n ≤ steps → n < 2 ^ digits steps n
 digits-enough zero n h = omega arith
@@ -69,7 +69,8 @@ module _ (s : Assignment) (et : litTrue s truth ≡ true) where
   ef = ap not et
 
   pub natural-reads : (ls : List Lit) (p n : ℕ) → n < 2 ^ p → map (litTrue s) ls ≡ bitsOf p (pos n) → Reads s (ls ++ falsity ∷ []) (pos n)
-  natural-reads ls p n h e = integer-reads p (pos n) h (map-append (litTrue s) ls (falsity ∷ []) ∙ rw (e, ef) (bitsOf-snoc p n h))
+  natural-reads ls p n h e =
+      integer-reads s (ls ++ falsity ∷ []) p (pos n) h (map-append (litTrue s) ls (falsity ∷ []) ∙ rw (e, ef) (bitsOf-snoc p n h))
 
   values-known : (bs : List Bool) → values s (map known bs) ≡ bs
   values-known [] = refl
@@ -77,7 +78,9 @@ module _ (s : Assignment) (et : litTrue s truth ≡ true) where
   values-known (false ∷ bs) = ap₂ _∷_ ef (values-known bs)
 
   pub constant-reads : (z : ℤ) → Reads s (constant z) z
-  constant-reads z = integer-reads (digits (mag z) (mag z)) z (digits-enough (mag z) (mag z) (omega arith)) (values-known (bitsOf (fewest z) z))
+  constant-reads z =
+      let enough = digits-enough (mag z) (mag z) (omega arith) in
+      integer-reads s (constant z) (digits (mag z) (mag z)) z enough (values-known (bitsOf (fewest z) z))
 
   module _ (l : List Bool) {xs ys : List Lit} {x y : ℤ} where
     pub sum-reads : Reads s xs x → Reads s ys y → Sem s l (sum xs ys) l (λ r. Reads s r (x +ℤ y))
