@@ -143,7 +143,7 @@ module _ (s : Assignment) (et : litTrue s truth ≡ true) where
 
     integer-row : (p : ℕ) (v : ℤ) (ls : List Lit) → 0 < p → Fits p v → map (litTrue s) ls ≡ bitsOf p v → Reads s ls v
     integer-row zero v ls h a k = absurd (omega arith)
-    integer-row (suc p) v ls h a k = integer-reads p v (below-fits a) k
+    integer-row (suc p) v ls h a k = integer-reads s ls p v (below-fits a) k
 
     sem-by : (first : ℕ) (k : Kind) (p x y z : ℕ) (v : ℤ) → outOfRange (uses k) p x z ≡ false → some (λ w r. not (eqb (sort rs r) w)) (uses k) x y z ≡ false
         → inBits (uses k) p v ≡ true → Sem s (bitsBy (uses k) p v ++ l) (stepsBy cs k p x y z) l (λ c. Shows s (recordBy first (planBy rs k p x y z)) c (valueBy vs k p x y z v))
