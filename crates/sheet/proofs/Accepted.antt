@@ -5,8 +5,9 @@ use mathlib.Core.Bool.{Bool, true, false, not, false≢true}
 use mathlib.Core.List.{List, [], _∷_, _++_}
 use Prim.Native.Nat.{ℕ, zero, suc, _+_, _-_, _/_, _%_, _≤_, _<_}
 use native.Mathlib.Omega.{arith}
-use lib.Dec.{T, eqb, ltb, leb, nltb→le, eqb→eq, eqb-refl}
+use lib.Dec.{eqb, ltb, leb}
 use lib.ListN.{length, getD, take, drop, length-append}
+use borrow.Author.Tests.{ltb-false, eqb-true, not-false}
 use Rattle.whole.specs.Tests.{if_then_else_}
 use Rattle.circuit.specs.declared.Counts.{Counts}
 use Rattle.circuit.specs.Counting.{_⊕_, theFirst, theLast}
@@ -42,9 +43,6 @@ not-stopped : (n : ℕ) (b : Bool) (v : Verdict) {r : Record} {k : Counts} → (
 not-stopped n true v e = let z : _≡_ {A = ℕ} 0 1 = cc in absurd (omega arith)
 not-stopped n false v e = (refl, e)
 
-at-most : (m n : ℕ) → ltb m n ≡ false → n ≤ m
-at-most m n e = nltb→le m n (rw e tt)
-
 -- constructors' arguments are equal where their results are
 same-pass : {r s : Record} {k l : Counts} → Pass r k ≡ Pass s l → (s ≡ r) × (l ≡ k)
 same-pass e = (cc, cc)
@@ -62,8 +60,8 @@ judge-passes earlier first f r k e =
       ranged = e₅ .0;
       named = e₆ .0;
       sorted = e₇ .0;
-      common = at-most _ _ (e₈ .0);
-      widest = at-most _ _ (e₉ .0);
+      common = ltb-false _ _ (e₈ .0);
+      widest = ltb-false _ _ (e₉ .0);
       isRecord = same .0;
       isCounts = same .1;
     }
@@ -128,11 +126,7 @@ walk-tells table (suc left) earlier so bytes sheet e = step (readRow (take 8 byt
 -- bytes in eights, and at least one
 at-least-one : (n : ℕ) → eqb n 0 ≡ false → not (eqb (n % 8) 0) ≡ false → 0 < n / 8
 at-least-one zero h k = absurd (false≢true (sym h))
-at-least-one (suc n) h k = let z : suc n % 8 ≡ 0 = eqb→eq (suc n % 8) 0 (of-not (eqb (suc n % 8) 0) k) in omega arith
-  where
-    of-not : (b : Bool) → not b ≡ false → T b
-    of-not true e = tt
-    of-not false e = absurd (false≢true (sym e))
+at-least-one (suc n) h k = let z : suc n % 8 ≡ 0 = eqb-true (suc n % 8) 0 (not-false (eqb (suc n % 8) 0) k) in omega arith
 
 pub record IsAccepted (table : List ℕ) (sheet : Sheet) : Type 0 where
   pub total : Counts
