@@ -1,3 +1,6 @@
 -- Why the promise holds. Assumes nothing.
 pub mod Counts
 pub mod Choices
+pub mod Readings
+pub mod Fitting
+pub mod Promise
