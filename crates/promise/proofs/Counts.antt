@@ -16,7 +16,7 @@ use Rattle.circuit.specs.Gates.{fixed}
 use Rattle.circuit.specs.Circuits.{new, _>>=_, gates, out, clausesFrom}
 use Rattle.circuit.specs.Counting.{_⊕_, nothing, aProduct, anExpansion, theFirst, theLast}
 use Rattle.circuit.proofs.Wellformed.{Wf, count}
-use Rattle.circuit.proofs.Costs.{State, Cost, cost-ret, cost-new, cost-map, cost-bind, Grown}
+use Rattle.circuit.proofs.Costs.{State, Cost, cost-ret, cost-new, cost-map, cost-bind, Grown, product-cost}
 use Rattle.circuit.proofs.Lengths.{slotsOf-append, cost-sound}
 use Rattle.sheet.specs.declared.Kind.{Kind}
 use Rattle.sheet.specs.declared.Kind.the-variants.{BooleanConstant, BooleanUnknown, NaturalUnknown, IntegerUnknown, NumberConstant, Not, And, Or, Implies, Iff, Sum, Difference, Product, Choice, Greater, Equal}
@@ -28,7 +28,7 @@ use Rattle.sheet.specs.Acceptance.{width, den, meeting, bringing, planBy, accep
 use Rattle.sheet.specs.Steps.{Cell, page, pages, stepsFrom, steps, cells, clausesButLast, lastClause, clauses, slotsFor, mapFor}
 use Rattle.sheet.proofs.Accepted.{Passes, Passed, IsAccepted, accepted-tells}
 use Rattle.sheet.proofs.Counted.{CellFor, CellsFor, cells-snoc, bitsAsked, row-cost}
-use Rattle.promise.specs.Promise.{Counted}
+use Rattle.promise.specs.Promise.{Counted, CountsAreMade, ProductMakes}
 
 -- a state that has made what is counted
 pub record Made (s : State) (k : Counts) : Type 0 where
@@ -180,7 +180,7 @@ pages-length n (r ∷ rs) (c ∷ cs) a b =
     omega (arith, pages-length n rs cs (a .1) (b .1), length-append (page ls) (pages cs), length-append (map slot ls) (replicate (48 - length ls) (pos 0)), length-map ls slot, length-replicate (48 - length ls) (pos 0))
 
 -- what acceptance counts is what the steps make
-pub counted : (table : List ℕ) (sheet : Sheet) → accept table ≡ accepted sheet → Counted sheet
+pub counted : CountsAreMade
 unfolding clausesButLast lastClause clauses slotsFor mapFor
 counted table sheet e =
     let a = accepted-tells table sheet e in
@@ -199,3 +199,10 @@ counted table sheet e =
       places = omega (arith, pages-length _ (sheet .records) (cells (sheet .rows)) (w .fit) (passed-narrow (sheet .rows) [] theFirst (sheet .records) (a .total) (a .passed) tt));
       records = omega arith;
     }
+
+-- the product's formulas are what its steps make
+pub product-makes : ProductMakes
+unfolding aProduct
+product-makes n v w xs ys h p q a b =
+    let made = cost-sound (product-cost (record { place = n; asked = 0; clauses = 0; slots = 0 }) h p q a b) .1 .0 in
+    (omega (arith, made), omega (arith, made))

@@ -4,3 +4,4 @@ pub mod Choices
 pub mod Readings
 pub mod Fitting
 pub mod Promise
+pub mod Assessor

@@ -21,7 +21,7 @@ use Rattle.sheet.specs.Steps.{Cell, cellAt, lit, steps, cells, clausesButLast, 
 use Rattle.sheet.specs.Calls.{constraint}
 use Rattle.sheet.proofs.Accepted.{Passed, IsAccepted, accepted-tells}
 use Rattle.sheet.proofs.Meant.{Shows, ShowAll, show-at}
-use Rattle.promise.specs.Promise.{Carries, Promise}
+use Rattle.promise.specs.Promise.{Carries, Promise, DemandThree}
 use Rattle.promise.proofs.Counts.{Whole, whole-table, records-many}
 use Rattle.promise.proofs.Choices.{AllIn, Enough, within-all, all-within, all-bits-many, Ranged, Chosen}
 use Rattle.promise.proofs.Readings.{Reading, carried, model-carries}
@@ -119,5 +119,5 @@ module _ (sheet : Sheet) (k : Known sheet) where
     }
 
 -- demand 3
-pub promise : (table : List ℕ) (sheet : Sheet) → accept table ≡ accepted sheet → (values : List ℤ) → Within (sheet .rows) values → Promise sheet values
-promise table sheet e values within = promise-of sheet (known table sheet e) values within
+pub demand-three : DemandThree
+demand-three table sheet e values within = promise-of sheet (known table sheet e) values within

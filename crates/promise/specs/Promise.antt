@@ -1,21 +1,23 @@
 -- Demand 3, the two sentences for the assessor, and the counts: what is promised of an accepted table. Assumes nothing.
 use mathlib.Core.Path.{_≡_}
-use mathlib.Core.Bool.{Bool, true}
+use mathlib.Core.Bool.{Bool, true, false}
 use mathlib.Core.List.{List, [], _∷_, _++_}
-use Prim.Native.Nat.{ℕ, _*_, _<_}
+use Prim.Native.Nat.{ℕ, _+_, _*_, _-_, _/_, _≤_, _<_}
 use lib.ListN.{length, getD}
 use lib.IntN.{ℤ}
 use Rattle.whole.specs.Bits.{Fits}
-use Rattle.circuit.specs.Literals.{Assignment, clauseTrue, allTrue}
-use Rattle.circuit.specs.Circuits.{gates}
+use Rattle.circuit.specs.Literals.{Lit, Assignment, clauseTrue, allTrue}
+use Rattle.circuit.specs.Circuits.{gates, clausesFrom}
+use Rattle.circuit.specs.Numbers.{product}
+use Rattle.circuit.proofs.Bounds.{Lits}
 use Rattle.sheet.specs.declared.Kind.{Kind}
 use Rattle.sheet.specs.declared.Kind.the-variants.{BooleanConstant, BooleanUnknown, NaturalUnknown, IntegerUnknown, NumberConstant, Not, And, Or, Implies, Iff, Sum, Difference, Product, Choice, Greater, Equal}
 use Rattle.sheet.specs.declared.Fields.{Fields}
 use Rattle.sheet.specs.declared.Record.{Record}
-use Rattle.sheet.specs.Values.{Value, boolean, fraction, valueAt, shared, over, rowValues, unknowns}
-use Rattle.sheet.specs.Acceptance.{Sheet, missing, meeting, widthOver}
+use Rattle.sheet.specs.Values.{Value, boolean, fraction, valueAt, shared, over, rowValues, unknowns, Within}
+use Rattle.sheet.specs.Acceptance.{accepted, Sheet, missing, meeting, widthOver, accept}
 use Rattle.sheet.specs.Steps.{steps, clausesButLast, lastClause, clauses, slotsFor, mapFor, readRows, settings, extension}
-use Rattle.sheet.specs.Calls.{constraint}
+use Rattle.sheet.specs.Calls.{unknownCount, writing, decoding, modelOf, settingsOf, constraint}
 
 -- an assignment carries values: it meets every clause but the last, and the unknowns' literals read as these values
 pub record Carries (sheet : Sheet) (values : List ℤ) (s : Assignment) : Type 0 where
@@ -72,6 +74,32 @@ pub record Promise (sheet : Sheet) (values : List ℤ) : Type 0 where
   -- the last clause holds exactly if the constraint is true
   pub last : (s : Assignment) → Carries sheet values s → clauseTrue s (lastClause (sheet .rows)) ≡ constraint sheet values
 
+abbrev pub DemandThree : Type 0
+DemandThree = (table : List ℕ) (sheet : Sheet) → accept table ≡ accepted sheet → (values : List ℤ) → Within (sheet .rows) values → Promise sheet values
+
+-- "when the tool prints timings, what shows that they meet the sheet?" If decoding accepts a model, the values that it gives are
+-- within their declared bits, and the constraint is true of them
+abbrev pub SettingsMeetTheSheet : Type 0
+SettingsMeetTheSheet =
+    (table : List ℕ) (recordRoom mapRoom slotRoom : ℕ) (model : List ℕ) (valueRoom : ℕ) (sheet : Sheet)
+    → decoding table recordRoom mapRoom slotRoom model valueRoom ≡ accepted sheet
+    → Within (sheet .rows) (settingsOf model sheet) × (constraint sheet (settingsOf model sheet) ≡ true)
+
+-- "when it finds none at those widths, what shows that none was lost on the way to the solver?" If values within their declared
+-- bits make the constraint true, decoding accepts the model that extending gives, and gives these values
+abbrev pub NoneLost : Type 0
+NoneLost =
+    (table : List ℕ) (recordRoom mapRoom slotRoom valueRoom : ℕ) (sheet : Sheet) → writing table recordRoom mapRoom slotRoom ≡ accepted sheet → unknownCount sheet ≤ valueRoom
+    → (values : List ℤ) → Within (sheet .rows) values → constraint sheet values ≡ true
+    → (decoding table recordRoom mapRoom slotRoom (modelOf values sheet) valueRoom ≡ accepted sheet) × (settingsOf (modelOf values sheet) sheet ≡ values)
+
+-- so where no assignment makes every clause true, no values within their declared bits make the constraint true
+abbrev pub NoneExists : Type 0
+NoneExists =
+    (table : List ℕ) (sheet : Sheet) → accept table ≡ accepted sheet
+    → ((s : Assignment) → length s ≡ sheet .counts .variables → allTrue s (clauses (sheet .rows)) ≡ false)
+    → (values : List ℤ) → Within (sheet .rows) values → constraint sheet values ≡ false
+
 -- what acceptance counts is what the steps make
 pub record Counted (sheet : Sheet) : Type 0 where
   pub unknown : sheet .counts .unknowns ≡ length (unknowns (sheet .rows))
@@ -80,3 +108,14 @@ pub record Counted (sheet : Sheet) : Type 0 where
   pub slot : sheet .counts .slots ≡ length (slotsFor (sheet .rows))
   pub places : length (mapFor (sheet .rows)) ≡ 48 * length (sheet .rows)
   pub records : length (sheet .records) ≡ length (sheet .rows)
+
+abbrev pub CountsAreMade : Type 0
+CountsAreMade = (table : List ℕ) (sheet : Sheet) → accept table ≡ accepted sheet → Counted sheet
+
+-- a product of numbers of v and w bits, whose literals are those of n variables made before, makes 2W² - W variables and
+-- (17W² - 11W)/2 clauses, W = v + w
+abbrev pub ProductMakes : Type 0
+ProductMakes =
+    (n v w : ℕ) (xs ys : List Lit) → 0 < n → 0 < v → 0 < w → Lits n v xs → Lits n w ys
+    → (length (gates n (product xs ys)) ≡ 2 * ((v + w) * (v + w)) - (v + w))
+    × (length (clausesFrom n (gates n (product xs ys))) ≡ (17 * ((v + w) * (v + w)) - 11 * (v + w)) / 2)
