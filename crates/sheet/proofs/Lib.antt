@@ -1,5 +1,4 @@
--- The worked examples, and the laws of a sheet. Assumes nothing.
-pub mod Examples
+-- The laws of a sheet. Assumes nothing.
 pub mod Fractions
 pub mod Accepted
 pub mod Tested

@@ -7,3 +7,4 @@ pub mod Steps
 pub mod Calls
 pub mod Texts
 pub mod Programs
+pub mod Examples

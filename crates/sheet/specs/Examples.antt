@@ -1,4 +1,5 @@
--- Document 01's examples that are marked *, as one table with one theorem, proved by computing. Assumes nothing.
+-- Document 01's examples that are marked *, and one sheet of every kind, as one table with one theorem, proved by computing.
+-- Assumes nothing.
 use mathlib.Core.Path.{_≡_, refl}
 use mathlib.Core.List.{List, [], _∷_, _++_, map}
 use Prim.Native.Nat.{ℕ, _/_, _%_}
@@ -14,7 +15,7 @@ use Rattle.sheet.specs.declared.Record.{Record}
 use Rattle.sheet.specs.Rows.{kindOf, readRow, rowsOf}
 use Rattle.sheet.specs.Values.{Value, numerator, denominator, rowVal, rowValues}
 use Rattle.sheet.specs.Acceptance.{Outcome, refused, accepted, Sheet, judge, walk, accept}
-use Rattle.sheet.specs.Steps.{rowSteps, steps, cells, clausesButLast, lastClause, clauses, slotsFor}
+use Rattle.sheet.specs.Steps.{rowSteps, steps, cells, clausesButLast, lastClause, clauses, slotsFor, readRows, extension}
 use Rattle.sheet.specs.Calls.{constraint}
 use Rattle.sheet.specs.Texts.{ascii, beginsLine, bytesIn, tableIn, linesFrom, readLines, digitsIn, decimal, signed, slotText, slotTexts, dimacs, refusedLine}
 use Rattle.sheet.specs.Programs.{clauseProgram}
@@ -38,8 +39,11 @@ shown f (accepted sheet) = f sheet
 abbrev widths : List ℕ → List ℤ
 widths table = shown (λ sheet. map (λ (r : Record). pos (r .width)) (sheet .records)) (accept table)
 
+abbrev evaluations : List ℕ → List ℤ → List ℤ
+evaluations table vs = shown (λ sheet. map numerator (rowValues (sheet .rows) vs)) (accept table)
+
 abbrev numerators : List ℕ → List ℤ
-numerators table = shown (λ sheet. map numerator (rowValues (sheet .rows) [])) (accept table)
+numerators table = evaluations table []
 
 abbrev denominators : List ℕ → List ℤ
 denominators table = shown (λ sheet. map (λ v. pos (denominator v)) (rowValues (sheet .rows) [])) (accept table)
@@ -56,6 +60,10 @@ made table = shown (λ sheet.
 abbrev truths : List ℕ → List ℤ → List ℤ
 truths table vs = shown (λ sheet. map (λ v. pos (bit (constraint sheet (v ∷ [])))) vs) (accept table)
 
+-- the rows' numerators as the steps have them: read from the assignment that extends the values
+abbrev readings : List ℕ → List ℤ → List ℤ
+readings table vs = shown (λ sheet. map numerator (readRows sheet (extension (sheet .rows) vs))) (accept table)
+
 pub record Example : Type 0 where
   pub shows : List ℤ
   pub wanted : List ℤ
@@ -66,6 +74,23 @@ a gives b = record { shows = a; wanted = b }
 
 abbrev aboveTwo : List ℕ
 aboveTwo = row 0x02 2 0 0 1 ++ number 2 1 ++ row 0x30 0 0 1 0
+
+-- true; p; a 3-bit natural n; a 3-bit integer i over 2; -3/4; not p; true and p; p or not p; p implies p; p iff p; n + i/2;
+-- i/2 - (-3/4); i/2 times -3/4; n if p, else -3/4; the sum above the difference; the choice equal to n
+abbrev everyKind : List ℕ
+everyKind =
+    row 0x00 0 1 0 0 ++ row 0x01 0 0 0 0 ++ row 0x02 3 0 0 1 ++ row 0x03 3 0 0 2 ++ number 0xffff_fffd 4
+    ++ row 0x10 0 1 0 0 ++ row 0x11 0 0 1 0 ++ row 0x12 0 1 5 0 ++ row 0x13 0 1 6 0 ++ row 0x14 0 1 6 0
+    ++ row 0x20 0 2 3 0 ++ row 0x21 0 3 4 0 ++ row 0x22 0 3 4 0 ++ row 0x23 0 1 2 4 ++ row 0x30 0 10 11 0 ++ row 0x31 0 13 2 0
+
+-- at p true, n = 5 and i = -4; and at p false, n = 0 and i = 3
+abbrev numeratorsHigh : List ℤ
+numeratorsHigh =
+    pos 1 ∷ pos 1 ∷ pos 5 ∷ negsuc 3 ∷ negsuc 2 ∷ pos 0 ∷ pos 1 ∷ pos 1 ∷ pos 1 ∷ pos 1 ∷ pos 6 ∷ negsuc 4 ∷ pos 12 ∷ pos 20 ∷ pos 1 ∷ pos 1 ∷ []
+
+abbrev numeratorsLow : List ℤ
+numeratorsLow =
+    pos 1 ∷ pos 0 ∷ pos 0 ∷ pos 3 ∷ negsuc 2 ∷ pos 1 ∷ pos 0 ∷ pos 1 ∷ pos 1 ∷ pos 1 ∷ pos 3 ∷ pos 9 ∷ negsuc 8 ∷ negsuc 2 ∷ pos 0 ∷ pos 0 ∷ []
 
 abbrev pub examples : List Example
 examples =
@@ -103,8 +128,13 @@ examples =
     ∷ (sizes aboveTwo gives pos 9 ∷ pos 26 ∷ pos 100 ∷ [])
     ∷ (made aboveTwo gives pos 9 ∷ pos 26 ∷ pos 100 ∷ [])
     ∷ (truths aboveTwo (pos 0 ∷ pos 1 ∷ pos 2 ∷ pos 3 ∷ []) gives pos 0 ∷ pos 0 ∷ pos 0 ∷ pos 1 ∷ [])
+    -- a sheet of every kind: by values, and by steps
+    ∷ (evaluations everyKind (pos 1 ∷ pos 5 ∷ negsuc 3 ∷ []) gives numeratorsHigh)
+    ∷ (readings everyKind (pos 1 ∷ pos 5 ∷ negsuc 3 ∷ []) gives numeratorsHigh)
+    ∷ (evaluations everyKind (pos 0 ∷ pos 0 ∷ pos 3 ∷ []) gives numeratorsLow)
+    ∷ (readings everyKind (pos 0 ∷ pos 0 ∷ pos 3 ∷ []) gives numeratorsLow)
     ∷ []
 
 pub examples-hold : map (λ (e : Example). e .shows) examples ≡ map (λ (e : Example). e .wanted) examples
-unfolding gcd lcm aProduct expandedWidth anExpansion kindOf readRow rowsOf rowVal rowValues judge walk accept rowSteps steps cells clausesButLast lastClause clauses slotsFor constraint beginsLine bytesIn tableIn linesFrom readLines digitsIn decimal signed slotText slotTexts dimacs refusedLine clauseProgram
+unfolding gcd lcm aProduct expandedWidth anExpansion kindOf readRow rowsOf rowVal rowValues judge walk accept rowSteps steps cells clausesButLast lastClause clauses slotsFor readRows extension constraint beginsLine bytesIn tableIn linesFrom readLines digitsIn decimal signed slotText slotTexts dimacs refusedLine clauseProgram
 examples-hold = refl
