@@ -46,8 +46,8 @@ some wrong anInteger x y z = false
 some wrong aConstant x y z = false
 some wrong (theRows sorts) x y z = someOf wrong sorts (x ∷ y ∷ z ∷ [])
 
--- what a row comes to: its record's sort, width and denominator; the denominator that 8 looks at and the width that 9 looks at;
--- and what it counts
+-- what a row comes to: its record's sort, width and denominator; the denominator that 8 looks at and the width that 9 looks at
+-- (no expansion is wider than the sum, choice or comparison that needs it); and what it counts
 pub record Plan : Type 0 where
   pub sort : ℕ
   pub width : ℕ
@@ -80,6 +80,7 @@ module _ (earlier : List Record) where
   abbrev pub den : ℕ → ℕ
   den x = getD earlier x missing .denominator
 
+  -- the least common multiple of two rows' denominators
   abbrev pub meeting : ℕ → ℕ → ℕ
   meeting x y = lcm (den x) (den y)
 

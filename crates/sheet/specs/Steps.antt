@@ -55,6 +55,7 @@ module _ (earlier : List Cell) where
   abbrev pub below : ℕ → ℕ
   below x = cellAt x .denominator
 
+  -- the least common multiple of two rows' denominators
   abbrev pub least : ℕ → ℕ → ℕ
   least x y = lcm (below x) (below y)
 
