@@ -1,5 +1,5 @@
 -- A whole number as a difference of two naturals: Dif z u v says z = u - v, so that omega can prove what is said of it. Assumes nothing.
-use mathlib.Core.Path.{_≡_, refl, sym, _∙_, ap, ap₂, subst}
+use mathlib.Core.Path.{_≡_, ap}
 use mathlib.Core.Logic.{_↔_}
 use mathlib.Core.Bool.{Bool, true, false, not, cond}
 use Prim.Native.Nat.{ℕ, zero, suc, _+_, _*_, _-_, _≤_, _<_}
@@ -7,7 +7,9 @@ use native.Mathlib.Omega.{arith}
 use native.Mathlib.Nat.{mul-add, add-mul}
 use lib.Dec.{T, ltb, ltb→lt, lt→ltb, nltb→le}
 use lib.IntN.{ℤ, pos, negsuc, negℤ, subℕ, _+ℤ_, _-ℤ_, _*ℤ_}
-use lib.Signed.{ltZ}
+use lib.Signed.{mag, ltZ}
+use Rattle.whole.specs.Tests.{eqZ}
+use Rattle.whole.proofs.Tests.{eqZ-iff}
 
 abbrev pub Apart : ℤ → ℕ → ℕ → Type 0
 Apart (pos n) u v = u ≡ v + n
@@ -44,6 +46,19 @@ dif-pos n = omega arith
 pub dif-negsuc : (n : ℕ) → Dif (negsuc n) 0 (suc n)
 dif-negsuc n = omega arith
 
+-- every whole number is a difference: one of the two is 0
+abbrev pub positivePart : ℤ → ℕ
+positivePart (pos n) = n
+positivePart (negsuc n) = 0
+
+abbrev pub negativePart : ℤ → ℕ
+negativePart (pos n) = 0
+negativePart (negsuc n) = suc n
+
+pub parts : (z : ℤ) → Dif z (positivePart z) (negativePart z)
+parts (pos n) = dif-pos n
+parts (negsuc n) = dif-negsuc n
+
 pub dif-neg : {z : ℤ} {u v : ℕ} → Dif z u v → Dif (negℤ z) v u
 dif-neg {z = pos zero} d = omega arith
 dif-neg {z = pos (suc n)} d = omega arith
@@ -69,3 +84,11 @@ dif-lt {x = pos a} {y = pos b} d e = (λ t. let h = ltb→lt a b t in omega arit
 dif-lt {x = pos a} {y = negsuc b} d e = (λ t. absurd t, λ h. omega arith)
 dif-lt {x = negsuc a} {y = pos b} d e = (λ t. omega arith, λ h. tt)
 dif-lt {x = negsuc a} {y = negsuc b} d e = (λ t. let h = ltb→lt b a t in omega arith, λ h. lt→ltb b a (omega arith))
+
+pub dif-eqZ : {x y : ℤ} {u v u′ v′ : ℕ} → Dif x u v → Dif y u′ v′ → (eqZ x y ≡ true) ↔ (u + v′ ≡ u′ + v)
+dif-eqZ {x} {y} d e = (λ t. dif-same (rw (eqZ-iff x y .0 t) at d) e, λ h. eqZ-iff x y .1 (dif-eq d e h))
+
+-- mag is n both for n and for -(n + 1)
+pub dif-mag : {z : ℤ} {u v m : ℕ} → Dif z u v → (mag z < m) ↔ ((u < v + m) × (v ≤ u + m))
+dif-mag {z = pos n} d = (λ h. omega arith, λ h. omega arith)
+dif-mag {z = negsuc n} d = (λ h. omega arith, λ h. omega arith)
