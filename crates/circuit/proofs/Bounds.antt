@@ -22,15 +22,15 @@ pub var-neg : (l : Lit) → var (neg l) ≡ var l
 var-neg (plus i) = refl
 var-neg (minus i) = refl
 
-pub bound-neg : (ls : List Lit) → bound (map neg ls) ≡ bound ls
+bound-neg : (ls : List Lit) → bound (map neg ls) ≡ bound ls
 bound-neg [] = refl
 bound-neg (l ∷ ls) = rw (var-neg l, bound-neg ls)
 
-pub bound-append : (ks ls : List Lit) → bound (ks ++ ls) ≡ max (bound ks) (bound ls)
+bound-append : (ks ls : List Lit) → bound (ks ++ ls) ≡ max (bound ks) (bound ls)
 bound-append [] ls = omega arith
 bound-append (k ∷ ks) ls = omega (arith, bound-append ks ls)
 
-pub bound-snoc : (ls : List Lit) (l : Lit) → bound (ls ++ l ∷ []) ≡ max (bound ls) (suc (var l))
+bound-snoc : (ls : List Lit) (l : Lit) → bound (ls ++ l ∷ []) ≡ max (bound ls) (suc (var l))
 bound-snoc ls l = omega (arith, bound-append ls (l ∷ []))
 
 bound-replicate : (k : ℕ) (l : Lit) → bound (replicate k l) ≤ suc (var l)
@@ -41,7 +41,7 @@ bound-last : (l : Lit) (ls : List Lit) → var (lastOf l ls) < bound (l ∷ ls)
 bound-last l [] = omega arith
 bound-last l (k ∷ ls) = omega (arith, bound-last k ls)
 
-pub bound-extended : (w : ℕ) (ls : List Lit) → bound (extended w ls) ≤ bound ls
+bound-extended : (w : ℕ) (ls : List Lit) → bound (extended w ls) ≤ bound ls
 bound-extended w [] = omega arith
 bound-extended w (l ∷ ls) =
     let k : ℕ = w - length (l ∷ ls) in
@@ -52,7 +52,7 @@ bound-known [] = omega arith
 bound-known (true ∷ bs) = omega (arith, bound-known bs)
 bound-known (false ∷ bs) = omega (arith, bound-known bs)
 
-pub bound-constant : (z : ℤ) → bound (constant z) ≤ 1
+bound-constant : (z : ℤ) → bound (constant z) ≤ 1
 bound-constant z = bound-known (bitsOf (fewest z) z)
 
 -- ---- the literals of a number: w of them, of the first n variables

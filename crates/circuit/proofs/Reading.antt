@@ -34,7 +34,7 @@ values-length s ls = length-map ls (litTrue s)
 stands : {s : Assignment} {ls : List Lit} {z : ℤ} → Reads s ls z → Stands (values s ls) z
 stands {s} {ls} a = record { some = rw (values-length s ls) (a .some); is = a .reads }
 
-pub reads-of : {s : Assignment} {ls : List Lit} {z : ℤ} {bs : List Bool} → values s ls ≡ bs → Stands bs z → Reads s ls z
+reads-of : {s : Assignment} {ls : List Lit} {z : ℤ} {bs : List Bool} → values s ls ≡ bs → Stands bs z → Reads s ls z
 reads-of {s} {ls} e a = record { some = omega (arith, values-length s ls, ap length e); reads = ap toInt e ∙ a .is }
 
 -- an unknown has the bits given to it
