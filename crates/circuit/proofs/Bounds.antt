@@ -1,12 +1,14 @@
 -- Which variables the literals of a number name at most, and how many literals there are. Assumes nothing.
-use mathlib.Core.Path.{_≡_, refl, ap}
+use mathlib.Core.Path.{_≡_, refl}
 use mathlib.Core.Bool.{Bool, true, false}
 use mathlib.Core.List.{List, [], _∷_, _++_, map}
 use Prim.Native.Nat.{ℕ, zero, suc, _-_, _≤_, _<_, max}
 use native.Mathlib.Omega.{arith}
-use lib.ListN.{length, replicate, length-append, length-map, length-replicate}
+use lib.ListN.{length, replicate, length-append, length-map}
 use lib.IntN.{ℤ}
-use Rattle.whole.specs.Bits.{half, bitsOf, fewest, lastOf, extended}
+use Rattle.whole.specs.Bits.{bitsOf, fewest, lastOf, extended}
+use Rattle.whole.proofs.Bits.{bitsOf-length}
+use Rattle.whole.proofs.Extended.{extended-length}
 use Rattle.circuit.specs.Literals.{Lit, plus, minus, neg, known}
 use Rattle.circuit.specs.Numbers.{constant}
 use Rattle.circuit.proofs.Wellformed.{var, Names}
@@ -20,15 +22,15 @@ pub var-neg : (l : Lit) → var (neg l) ≡ var l
 var-neg (plus i) = refl
 var-neg (minus i) = refl
 
-pub bound-neg : (ls : List Lit) → bound (map neg ls) ≡ bound ls
+bound-neg : (ls : List Lit) → bound (map neg ls) ≡ bound ls
 bound-neg [] = refl
 bound-neg (l ∷ ls) = rw (var-neg l, bound-neg ls)
 
-pub bound-append : (ks ls : List Lit) → bound (ks ++ ls) ≡ max (bound ks) (bound ls)
+bound-append : (ks ls : List Lit) → bound (ks ++ ls) ≡ max (bound ks) (bound ls)
 bound-append [] ls = omega arith
 bound-append (k ∷ ks) ls = omega (arith, bound-append ks ls)
 
-pub bound-snoc : (ls : List Lit) (l : Lit) → bound (ls ++ l ∷ []) ≡ max (bound ls) (suc (var l))
+bound-snoc : (ls : List Lit) (l : Lit) → bound (ls ++ l ∷ []) ≡ max (bound ls) (suc (var l))
 bound-snoc ls l = omega (arith, bound-append ls (l ∷ []))
 
 bound-replicate : (k : ℕ) (l : Lit) → bound (replicate k l) ≤ suc (var l)
@@ -39,7 +41,7 @@ bound-last : (l : Lit) (ls : List Lit) → var (lastOf l ls) < bound (l ∷ ls)
 bound-last l [] = omega arith
 bound-last l (k ∷ ls) = omega (arith, bound-last k ls)
 
-pub bound-extended : (w : ℕ) (ls : List Lit) → bound (extended w ls) ≤ bound ls
+bound-extended : (w : ℕ) (ls : List Lit) → bound (extended w ls) ≤ bound ls
 bound-extended w [] = omega arith
 bound-extended w (l ∷ ls) =
     let k : ℕ = w - length (l ∷ ls) in
@@ -50,23 +52,8 @@ bound-known [] = omega arith
 bound-known (true ∷ bs) = omega (arith, bound-known bs)
 bound-known (false ∷ bs) = omega (arith, bound-known bs)
 
-pub bound-constant : (z : ℤ) → bound (constant z) ≤ 1
+bound-constant : (z : ℤ) → bound (constant z) ≤ 1
 bound-constant z = bound-known (bitsOf (fewest z) z)
-
--- ---- lengths
-
--- merged later
-module _ {A : Type 0} where
-  extended-length : (w : ℕ) (xs : List A) → 0 < length xs → length xs ≤ w → length (extended w xs) ≡ w
-  extended-length w [] h k = absurd (omega arith)
-  extended-length w (x ∷ xs) h k =
-      let m : ℕ = w - length (x ∷ xs) in
-      omega (arith, length-append xs (replicate m (lastOf x xs)), length-replicate m (lastOf x xs))
-
--- merged later
-bitsOf-length : (k : ℕ) (z : ℤ) → length (bitsOf k z) ≡ k
-bitsOf-length zero z = refl
-bitsOf-length (suc k) z = ap suc (bitsOf-length k (half z))
 
 -- ---- the literals of a number: w of them, of the first n variables
 pub record Lits (n w : ℕ) (ls : List Lit) : Type 0 where

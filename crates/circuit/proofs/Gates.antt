@@ -41,7 +41,7 @@ table gate e g a b c =
     let e₃ = both-at (λ b. both (λ c. right gate g a b c)) e₂ b in
     beq-eq _ _ (both-at (λ c. right gate g a b c) e₃ c)
 
-pub gate-law : (s : Assignment) (i : ℕ) (g : Gate) → allTrue s (gateClauses i g) ≡ Bool·beq (getD s i false) (gateVal s (getD s i false) g)
+gate-law : (s : Assignment) (i : ℕ) (g : Gate) → allTrue s (gateClauses i g) ≡ Bool·beq (getD s i false) (gateVal s (getD s i false) g)
 gate-law s i fixed = table fixed refl (getD s i false) true true true
 gate-law s i free = sym (beq-refl (getD s i false))
 gate-law s i (and a b) = simp litTrue-neg (table (and (plus 1) (plus 2)) refl (getD s i false) (litTrue s a) (litTrue s b) true)

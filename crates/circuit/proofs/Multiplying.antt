@@ -5,13 +5,12 @@ use mathlib.Core.Bool.{Bool, true, false, _&&_}
 use mathlib.Core.List.{List, [], _∷_}
 use Prim.Native.Nat.{ℕ, zero, suc, _+_, _*_, _^_, _≤_, _<_}
 use native.Mathlib.Omega.{arith}
-use native.Mathlib.Nat.{add-mul, mul-assoc, suc-mul, mul-suc, pow-suc, mul-le-mul}
+use native.Mathlib.Nat.{add-mul, mul-assoc, pow-suc}
 use lib.ListN.{length, length-map}
-use lib.Pow.{pow-add}
-use lib.IntN.{ℤ, pos, negsuc, negℤ, _*ℤ_}
-use lib.Signed.{mag}
+use lib.IntN.{ℤ, _*ℤ_}
 use Rattle.whole.specs.Bits.{bit, toInt, extended}
-use Rattle.whole.proofs.Bits.{Below, Stands, toInt-below, val}
+use Rattle.whole.proofs.Bits.{Below, below-fits, Stands, stands-fits, toInt-below, val}
+use Rattle.whole.proofs.Ranges.{product-fits}
 use Rattle.whole.proofs.Extended.{extended-length, extended-same}
 use Rattle.whole.proofs.Residues.{Congruent, congruent-refl, congruent-trans, congruent-to, congruent-add, congruent-double}
 use Rattle.whole.proofs.Residues.{residue-shift, residue-mul, residue-near, bits-residue}
@@ -105,20 +104,6 @@ multiplierBits-val xs (y ∷ ys) =
     congruent-to _ (congruent-trans rows (congruent-add (andsBits-val (length xs) xs y) (congruent-refl (2 ^ length xs) (2 * (val ys * val xs)))))
     (simp (add-mul, mul-assoc) (omega arith))
 
--- a product of numbers of a + 1 and of b + 1 bits is in the range of a + b + 2
-mag-neg : (n : ℕ) → mag (negℤ (pos n)) ≤ n
-mag-neg zero = omega arith
-mag-neg (suc n) = omega arith
-
-mag-mul : (x y : ℤ) {g h : ℕ} → mag x < g → mag y < h → mag (x *ℤ y) < g * h * 2
-mag-mul (pos a) (pos b) p q = let f = simp (suc-mul, mul-suc) at (mul-le-mul p q) in omega arith
-mag-mul (pos a) (negsuc b) p q = let f = simp suc-mul at (mul-le-mul p q) in let k = mag-neg (a * suc b) in omega arith
-mag-mul (negsuc a) (pos b) p q = let f = simp mul-suc at (mul-le-mul p q) in let k = mag-neg (suc a * b) in omega arith
-mag-mul (negsuc a) (negsuc b) p q = let f = simp (suc-mul, mul-suc) at (mul-le-mul p q) in simp (suc-mul, mul-suc) (omega arith)
-
-product-below : (a b : ℕ) (x y : ℤ) → Below a x → Below b y → Below (suc (a + b)) (x *ℤ y)
-product-below a b x y p q = rw (pow-suc 2 (a + b), pow-add 2 a b) (mag-mul x y p q)
-
 -- bits of one width whose product is in its range
 multiplier-exact : (k : ℕ) (xs ys : List Bool) → length xs ≡ suc k → length ys ≡ suc k → Below k (toInt xs *ℤ toInt ys)
     → toInt (multiplierBits xs ys) ≡ toInt xs *ℤ toInt ys
@@ -131,21 +116,17 @@ multiplier-exact k xs ys e f h =
 
 pub product-exact : (w : ℕ) {xs ys : List Bool} {x y : ℤ} → Stands xs x → Stands ys y → w ≡ length xs + length ys
     → Stands (multiplierBits (extended w xs) (extended w ys)) (x *ℤ y)
-product-exact w {xs = []} a b e = absurd (omega arith)
-product-exact w {xs = x ∷ xs} {ys = []} a b e = absurd (omega arith)
-product-exact w {xs = x ∷ xs} {ys = y ∷ ys} a b e =
-    let fx : toInt (extended w (x ∷ xs)) ≡ toInt (x ∷ xs) = extended-same w (x ∷ xs) in
-    let fy : toInt (extended w (y ∷ ys)) ≡ toInt (y ∷ ys) = extended-same w (y ∷ ys) in
-    let lx : length (extended w (x ∷ xs)) ≡ w = extended-length w (x ∷ xs) (a .some) (omega arith) in
-    let ly : length (extended w (y ∷ ys)) ≡ w = extended-length w (y ∷ ys) (b .some) (omega arith) in
-    let bx = toInt-below (length xs) (x ∷ xs) refl in
-    let by = toInt-below (length ys) (y ∷ ys) refl in
-    let small = product-below (length xs) (length ys) (toInt (x ∷ xs)) (toInt (y ∷ ys)) bx by in
-    let l = multiplierBits-length (extended w (x ∷ xs)) (extended w (y ∷ ys)) (omega arith) in
+product-exact zero a b e = absurd (omega arith)
+product-exact (suc k) {xs} {ys} {x} {y} a b e =
+    let fx : toInt (extended (suc k) xs) ≡ x = extended-same (suc k) xs ∙ a .is in
+    let fy : toInt (extended (suc k) ys) ≡ y = extended-same (suc k) ys ∙ b .is in
+    let lx : length (extended (suc k) xs) ≡ suc k = extended-length (suc k) xs (a .some) (omega arith) in
+    let ly : length (extended (suc k) ys) ≡ suc k = extended-length (suc k) ys (b .some) (omega arith) in
+    let small : Below k (x *ℤ y) = below-fits (rw (← e) at (product-fits (a .some) (b .some) (stands-fits a) (stands-fits b))) in
+    let l = multiplierBits-length (extended (suc k) xs) (extended (suc k) ys) (omega arith) in
     record {
       some = omega arith;
-      is = multiplier-exact (suc (length xs + length ys)) (extended w (x ∷ xs)) (extended w (y ∷ ys)) (omega arith) (omega arith) (rw (fx, fy) small)
-          ∙ ap₂ _*ℤ_ (fx ∙ a .is) (fy ∙ b .is);
+      is = multiplier-exact k (extended (suc k) xs) (extended (suc k) ys) lx ly (rw (fx, fy) small) ∙ ap₂ _*ℤ_ fx fy;
     }
 
 ands-sem : (s : Assignment) (l : List Bool) (n : ℕ) (xs : List Lit) (y : Lit)

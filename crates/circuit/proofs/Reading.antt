@@ -2,17 +2,17 @@
 use mathlib.Core.Path.{_≡_, refl, _∙_, ap, ap₂}
 use mathlib.Core.Bool.{Bool, true, false, not}
 use mathlib.Core.List.{List, [], _∷_, _++_, map, map-append}
-use Prim.Native.Nat.{ℕ, zero, suc, _+_, _/_, _^_, _≤_, _<_}
+use Prim.Native.Nat.{ℕ, zero, suc, _+_, _^_, _≤_, _<_}
 use native.Mathlib.Omega.{arith}
-use native.Mathlib.Nat.{pow-suc}
 use lib.Dec.{eqb}
 use lib.ListN.{length, length-map}
 use lib.IntN.{ℤ, pos, one, *ℤ-one, _+ℤ_, _-ℤ_, _*ℤ_}
-use lib.Signed.{mag, ltZ}
+use lib.Signed.{ltZ}
 use borrow.Author.Tests.{eqb-true}
 use Rattle.whole.specs.Tests.{if_then_else_, eqZ}
-use Rattle.whole.specs.Bits.{toInt, half, bitsOf, digits, fewest, extended}
-use Rattle.whole.proofs.Bits.{Below, Stands, toInt-below, toInt-bitsOf, bitsOf-snoc}
+use Rattle.whole.specs.Bits.{toInt, half, bitsOf, fewest, extended}
+use Rattle.whole.proofs.Bits.{Below, below-fits, Stands, toInt-bitsOf, bitsOf-snoc}
+use Rattle.whole.proofs.Ranges.{fewest-fits}
 use Rattle.whole.proofs.Extended.{extended-map}
 use Rattle.circuit.specs.Literals.{Lit, neg, truth, falsity, known, Assignment, litTrue}
 use Rattle.circuit.specs.Circuits.{ret}
@@ -34,12 +34,8 @@ values-length s ls = length-map ls (litTrue s)
 stands : {s : Assignment} {ls : List Lit} {z : ℤ} → Reads s ls z → Stands (values s ls) z
 stands {s} {ls} a = record { some = rw (values-length s ls) (a .some); is = a .reads }
 
-pub reads-of : {s : Assignment} {ls : List Lit} {z : ℤ} {bs : List Bool} → values s ls ≡ bs → Stands bs z → Reads s ls z
+reads-of : {s : Assignment} {ls : List Lit} {z : ℤ} {bs : List Bool} → values s ls ≡ bs → Stands bs z → Reads s ls z
 reads-of {s} {ls} e a = record { some = omega (arith, values-length s ls, ap length e); reads = ap toInt e ∙ a .is }
-
-pub reads-below : {s : Assignment} {ls : List Lit} {z : ℤ} → Reads s ls z → (k : ℕ) × (length ls ≡ suc k) × Below k z
-reads-below {ls = []} a = absurd (omega arith)
-reads-below {s} {ls = x ∷ ls} a = (length ls, refl, rw (← a .reads) (toInt-below (length ls) (values s (x ∷ ls)) (values-length s (x ∷ ls))))
 
 -- an unknown has the bits given to it
 pub unknown-sem : (s : Assignment) (l : List Bool) (p : ℕ) (v : ℤ) → Sem s (bitsOf p v ++ l) (unknown p) l (λ r. map (litTrue s) r ≡ bitsOf p v)
@@ -48,11 +44,6 @@ unknown-sem s l (suc p) v = sem-new (λ x ex. sem-bind (unknown-sem s l p (half 
 
 pub integer-reads : (s : Assignment) (ls : List Lit) (k : ℕ) (v : ℤ) → Below k v → map (litTrue s) ls ≡ bitsOf (suc k) v → Reads s ls v
 integer-reads s ls k v h e = reads-of e (record { some = omega arith; is = toInt-bitsOf k v h })
-
-digits-enough : (steps n : ℕ) → n ≤ steps → n < 2 ^ digits steps n
-digits-enough zero n h = omega arith
-digits-enough (suc s) zero h = omega arith
-digits-enough (suc s) (suc n) h = let ih = digits-enough s (suc n / 2) (omega arith) in rw pow-suc (omega arith)
 
 values-neg : (s : Assignment) (ls : List Lit) → values s (map neg ls) ≡ map not (values s ls)
 values-neg s [] = refl
@@ -78,9 +69,7 @@ module _ (s : Assignment) (et : litTrue s truth ≡ true) where
   values-known (false ∷ bs) = ap₂ _∷_ ef (values-known bs)
 
   pub constant-reads : (z : ℤ) → Reads s (constant z) z
-  constant-reads z =
-      let enough = digits-enough (mag z) (mag z) (omega arith) in
-      integer-reads s (constant z) (digits (mag z) (mag z)) z enough (values-known (bitsOf (fewest z) z))
+  constant-reads z = integer-reads s (constant z) _ z (below-fits (fewest-fits z)) (values-known (bitsOf (fewest z) z))
 
   module _ (l : List Bool) {xs ys : List Lit} {x y : ℤ} where
     pub sum-reads : Reads s xs x → Reads s ys y → Sem s l (sum xs ys) l (λ r. Reads s r (x +ℤ y))

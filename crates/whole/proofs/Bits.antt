@@ -11,7 +11,7 @@ use lib.ListN.{length, replicate}
 use lib.IntN.{ℤ, pos, negsuc, negℤ, _+ℤ_, _*ℤ_}
 use lib.Signed.{mag, _≤ℤ_, _<ℤ_}
 use Rattle.whole.specs.Bits.{bit, toInt, Fits, odd, half, bitsOf, lastOf}
-use Rattle.whole.proofs.Differences.{Dif, dif-shift, dif-eq, dif-same, dif-pos, dif-negsuc, dif-neg, dif-add, dif-mul}
+use Rattle.whole.proofs.Differences.{Dif, dif-shift, dif-eq, dif-same, dif-pos, dif-negsuc, dif-neg, dif-add, dif-mul, dif-mag}
 
 -- the range of k + 1 bits as one bound, since mag is n both for n and for -(n + 1)
 abbrev pub Below : ℕ → ℤ → Type 0
@@ -24,16 +24,16 @@ within (suc m) (pos a) = (λ h. (record { le = tt }, record { lt = lt→ltb a (s
 within (suc m) (negsuc a) =
     (λ h. (record { le = le→leb a m (omega arith) }, record { lt = tt }), λ h. let l = leb→le a m (h .0 .le) in omega arith)
 
+pub fits-iff : {k : ℕ} {z : ℤ} → Fits k z ↔ (mag z < 2 ^ (k - 1))
+fits-iff {k} {z} =
+    let r = within (2 ^ (k - 1)) z in
+    (λ f. r .1 (f .low, f .high), λ h. record { low = r .0 h .0; high = r .0 h .1 })
+
 pub fits-below : {k : ℕ} {z : ℤ} → Below k z → Fits (suc k) z
-fits-below {k} {z} h =
-    let e : suc k - 1 ≡ k = omega arith in
-    let r = within (2 ^ k) z .0 h in
-    record { low = rw e (r .0); high = rw e (r .1) }
+fits-below {k} {z} h = let e : suc k - 1 ≡ k = omega arith in fits-iff .1 (rw e h)
 
 pub below-fits : {k : ℕ} {z : ℤ} → Fits (suc k) z → Below k z
-below-fits {k} {z} f =
-    let e : suc k - 1 ≡ k = omega arith in
-    within (2 ^ k) z .1 (rw e at (f .low), rw e at (f .high))
+below-fits {k} {z} f = let e : suc k - 1 ≡ k = omega arith in rw e at (fits-iff .0 f)
 
 -- bits that stand for a number: at least the sign is there
 pub record Stands (bs : List Bool) (z : ℤ) : Type 0 where
@@ -77,15 +77,15 @@ down-le true [] = omega arith
 down-le false [] = omega arith
 down-le b (c ∷ bs) = let ih = down-le c bs in rw pow-suc (omega arith)
 
-mag-lt : {z : ℤ} {u v m : ℕ} → Dif z u v → u < m → v ≤ m → mag z < m
-mag-lt {z = pos n} d p q = omega arith
-mag-lt {z = negsuc n} d p q = omega arith
+pub toInt-fits : (bs : List Bool) → Fits (length bs) (toInt bs)
+toInt-fits [] = fits-iff .1 (omega arith)
+toInt-fits (b ∷ bs) = fits-below (dif-mag (toInt-dif (b ∷ bs)) .1 (omega (arith, up-lt b bs, down-le b bs)))
+
+pub stands-fits : {bs : List Bool} {z : ℤ} → Stands bs z → Fits (length bs) z
+stands-fits {bs} a = rw (a .is) at (toInt-fits bs)
 
 pub toInt-below : (k : ℕ) (bs : List Bool) → length bs ≡ suc k → Below k (toInt bs)
-toInt-below k [] e = absurd (omega arith)
-toInt-below k (b ∷ bs) e =
-    let l : length bs ≡ k = omega arith in
-    rw l at (mag-lt (toInt-dif (b ∷ bs)) (up-lt b bs) (down-le b bs))
+toInt-below k bs e = below-fits (rw e at (toInt-fits bs))
 
 -- a number in its range is what its bits stand for
 bit-of : (n : ℕ) → n < 2 → bit (eqb n 1) ≡ n

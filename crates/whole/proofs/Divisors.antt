@@ -4,7 +4,7 @@ use mathlib.Core.Path.{_≡_, refl, sym, _∙_, ap}
 use Prim.Native.Nat.{ℕ, zero, suc, _+_, _*_, _/_, _%_, _≤_, _<_, _∣_}
 use native.Mathlib.Omega.{arith}
 use native.Mathlib.Nat.{dvd-refl, dvd-zero, dvd-mul-left, dvd-mul-right, dvd-mul-right-of-dvd, dvd-add-iff-right, dvd-mod-iff, dvd-of-mul-dvd-mul-right}
-use native.Mathlib.Nat.{pos-of-dvd-of-pos, le-of-dvd, mul-dvd-mul-left, mul-dvd-mul-right, div-mul-cancel, div-add-mod', le-div-iff-mul-le, mod-lt}
+use native.Mathlib.Nat.{pos-of-dvd-of-pos, mul-dvd-mul-left, mul-dvd-mul-right, div-mul-cancel, div-add-mod', mod-lt}
 use native.Mathlib.Nat.{mul-add, mul-assoc, mul-comm, one-mul, mul-pos, zero-lt-suc}
 use Rattle.whole.specs.Divisors.{euclid, gcd, lcm, IsGcd, IsLcm}
 
@@ -82,9 +82,3 @@ module _ (a b : ℕ) where
 
       pub lcm-pos : 0 < lcm a b
       lcm-pos = pos-of-dvd-of-pos (lcm-is .least (a * b) (dvd-mul-right a b) (dvd-mul-left b a)) (mul-pos h k)
-
-      pub factor-left-pos : 0 < lcm a b / a
-      factor-left-pos = le-div-iff-mul-le h .1 (rw one-mul (le-of-dvd lcm-pos (lcm-is .left)))
-
-      pub factor-right-pos : 0 < lcm a b / b
-      factor-right-pos = le-div-iff-mul-le k .1 (rw one-mul (le-of-dvd lcm-pos (lcm-is .right)))

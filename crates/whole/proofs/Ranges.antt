@@ -5,57 +5,27 @@ use mathlib.Core.Bool.{Bool, true, false}
 use Prim.Native.Nat.{ℕ, zero, suc, _+_, _*_, _-_, _/_, _^_, _≤_, _<_, max}
 use native.Mathlib.Omega.{arith}
 use native.Mathlib.Nat.{pow-suc, mul-le-mul, suc-mul, mul-suc}
-use lib.Dec.{leb→le, le→leb, ltb→lt, lt→ltb}
 use lib.IntN.{ℤ, pos, negsuc, negℤ, _+ℤ_, _-ℤ_, _*ℤ_}
 use lib.Pow.{pow-mono, pow-add}
-use lib.Signed.{mag, _≤ℤ_, _<ℤ_}
+use lib.Signed.{mag}
 use Rattle.whole.specs.Tests.{if_then_else_}
 use Rattle.whole.specs.Bits.{Fits, digits, fewest}
-use Rattle.whole.proofs.Differences.{Dif, dif-pos, dif-negsuc, dif-add, dif-minus}
-
--- ---- a range is one bound of mag
-
-mag-lt : (z : ℤ) (h : ℕ) → negℤ (pos h) ≤ℤ z → z <ℤ pos h → mag z < h
-mag-lt (pos n) h l u = ltb→lt n h (u .lt)
-mag-lt (negsuc n) zero l u = absurd (l .le)
-mag-lt (negsuc n) (suc h) l u = let k = leb→le n h (l .le) in omega arith
-
-lt-mag : (z : ℤ) (h : ℕ) → mag z < h → (negℤ (pos h) ≤ℤ z) × (z <ℤ pos h)
-lt-mag z zero k = absurd (omega arith)
-lt-mag (pos n) (suc h) k = (record { le = tt }, record { lt = lt→ltb n (suc h) k })
-lt-mag (negsuc n) (suc h) k = (record { le = le→leb n h (omega arith) }, record { lt = tt })
-
-below-fits : {k : ℕ} {z : ℤ} → Fits k z → mag z < 2 ^ (k - 1)
-below-fits {k = k} {z = z} p = mag-lt z (2 ^ (k - 1)) (p .low) (p .high)
-
-fits-below : {k : ℕ} {z : ℤ} → mag z < 2 ^ (k - 1) → Fits k z
-fits-below {k = k} {z = z} h = let r = lt-mag z (2 ^ (k - 1)) h in record { low = r .0; high = r .1 }
+use Rattle.whole.proofs.Differences.{positivePart, negativePart, parts, dif-add, dif-minus, dif-mag}
+use Rattle.whole.proofs.Bits.{fits-iff, fits-below}
 
 pub fits-up : {j k : ℕ} {z : ℤ} → j ≤ k → Fits j z → Fits k z
-fits-up {j = j} {k = k} h p =
+fits-up {j} {k} {z} h p =
     let m = pow-mono {i = j - 1} {j = k - 1} (omega arith) in
-    fits-below (omega (arith, below-fits p))
+    fits-iff .1 (omega (arith, fits-iff .0 p))
 
 pub natural-fits : {n p : ℕ} → n < 2 ^ p → Fits (suc p) (pos n)
-natural-fits {p = p} h = let e : suc p - 1 ≡ p = omega arith in fits-below (rw e h)
+natural-fits h = fits-below h
 
 -- ---- sums and differences
 
--- z = up - down, each of the two in its range
-record Spread (k : ℕ) (z : ℤ) : Type 0 where
-  up : ℕ
-  down : ℕ
-  apart : Dif z up down
-  up-lt : up < 2 ^ (k - 1)
-  down-le : down ≤ 2 ^ (k - 1)
-
-spread : {k : ℕ} {z : ℤ} → Fits k z → Spread k z
-spread {z = pos n} p = record { up = n; down = 0; apart = dif-pos n; up-lt = below-fits p; down-le = omega arith }
-spread {z = negsuc n} p = let h = below-fits p in record { up = 0; down = suc n; apart = dif-negsuc n; up-lt = omega arith; down-le = h }
-
-fits-spread : {k : ℕ} {z : ℤ} → Spread k z → Fits k z
-fits-spread {z = pos n} s = fits-below (omega (arith, s .apart))
-fits-spread {z = negsuc n} s = fits-below (omega (arith, s .apart))
+-- how far apart a number's two parts are
+reach : {k : ℕ} {z : ℤ} → Fits k z → (positivePart z < negativePart z + 2 ^ (k - 1)) × (negativePart z ≤ positivePart z + 2 ^ (k - 1))
+reach {k} {z} p = dif-mag (parts z) .0 (fits-iff .0 p)
 
 two-ranges : (a b : ℕ) → 0 < a → 2 ^ (a - 1) + 2 ^ (b - 1) ≤ 2 ^ (suc (max a b) - 1)
 two-ranges a b h =
@@ -66,18 +36,10 @@ two-ranges a b h =
 
 module _ {a b : ℕ} {x y : ℤ} (h : 0 < a) (k : 0 < b) (p : Fits a x) (q : Fits b y) where
   pub sum-fits : Fits (suc (max a b)) (x +ℤ y)
-  sum-fits =
-      let s = spread p in
-      let t = spread q in
-      let w = two-ranges a b h in
-      fits-spread (record { up = s .up + t .up; down = s .down + t .down; apart = dif-add (s .apart) (t .apart); up-lt = omega arith; down-le = omega arith })
+  sum-fits = fits-iff .1 (dif-mag (dif-add (parts x) (parts y)) .1 (omega (arith, two-ranges a b h, reach p, reach q)))
 
   pub difference-fits : Fits (suc (max a b)) (x -ℤ y)
-  difference-fits =
-      let s = spread p in
-      let t = spread q in
-      let w = two-ranges a b h in
-      fits-spread (record { up = s .up + t .down; down = s .down + t .up; apart = dif-minus (s .apart) (t .apart); up-lt = omega arith; down-le = omega arith })
+  difference-fits = fits-iff .1 (dif-mag (dif-minus (parts x) (parts y)) .1 (omega (arith, two-ranges a b h, reach p, reach q)))
 
 pub choice-fits : (c : Bool) {a b : ℕ} {x y : ℤ} → Fits a x → Fits b y → Fits (max a b) (if c then x else y)
 choice-fits true p q = fits-up (omega arith) p
@@ -98,7 +60,7 @@ mag-mul (negsuc a) (negsuc b) p q = let f = simp (suc-mul, mul-suc) at (mul-le-m
 pub product-fits : {a b : ℕ} {x y : ℤ} → 0 < a → 0 < b → Fits a x → Fits b y → Fits (a + b) (x *ℤ y)
 product-fits {a = a} {b = b} {x = x} {y = y} h k p q =
     let e : a + b - 1 ≡ suc ((a - 1) + (b - 1)) = omega arith in
-    fits-below (rw (e, pow-suc 2 (a - 1 + (b - 1)), pow-add) (mag-mul x y (below-fits p) (below-fits q)))
+    fits-iff .1 (rw (e, pow-suc 2 (a - 1 + (b - 1)), pow-add) (mag-mul x y (fits-iff .0 p) (fits-iff .0 q)))
 
 -- ---- constants
 
@@ -117,7 +79,7 @@ digits-least (suc s) (suc n) (suc k) h p =
     omega arith
 
 pub fewest-fits : (z : ℤ) → Fits (fewest z) z
-fewest-fits z = let e : fewest z - 1 ≡ digits (mag z) (mag z) = omega arith in fits-below (rw e (digits-enough (mag z) (mag z) (omega arith)))
+fewest-fits z = fits-below (digits-enough (mag z) (mag z) (omega arith))
 
 pub fewest-least : (z : ℤ) (k : ℕ) → 0 < k → Fits k z → fewest z ≤ k
-fewest-least z k h p = omega (arith, digits-least (mag z) (mag z) (k - 1) (omega arith) (below-fits p))
+fewest-least z k h p = omega (arith, digits-least (mag z) (mag z) (k - 1) (omega arith) (fits-iff .0 p))
