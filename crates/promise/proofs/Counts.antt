@@ -24,7 +24,7 @@ use Rattle.sheet.specs.declared.Fields.{Fields}
 use Rattle.sheet.specs.declared.Record.{Record}
 use Rattle.sheet.specs.Rows.{uses, isUnknown}
 use Rattle.sheet.specs.Values.{unknowns}
-use Rattle.sheet.specs.Acceptance.{width, den, meeting, bringing, planBy, accepted, Sheet, accept}
+use Rattle.sheet.specs.Acceptance.{meeting, bringing, planBy, recordAt, accepted, Sheet, accept}
 use Rattle.sheet.specs.Steps.{Cell, page, pages, stepsFrom, steps, cells, clausesButLast, lastClause, clauses, slotsFor, mapFor}
 use Rattle.sheet.proofs.Accepted.{Passes, Passed, IsAccepted, accepted-tells}
 use Rattle.sheet.proofs.Counted.{CellFor, CellsFor, cells-snoc, bitsAsked, row-cost}
@@ -98,27 +98,27 @@ expansion-asks w f = go (eqb f 1)
     go true = refl
     go false = refl
 
-bringing-asks : (rs : List Record) (x y : ℕ) → bringing rs x y .unknowns ≡ 0
-bringing-asks rs x y = omega (arith, expansion-asks (width rs x) (meeting rs x y / den rs x), expansion-asks (width rs y) (meeting rs x y / den rs y))
+bringing-asks : (a b : Record) → bringing a b .unknowns ≡ 0
+bringing-asks a b = omega (arith, expansion-asks (a .width) (meeting a b / a .denominator), expansion-asks (b .width) (meeting a b / b .denominator))
 
-plan-asks : (rs : List Record) (k : Kind) (p x y z : ℕ) → planBy rs k p x y z .counts .unknowns ≡ bit (isUnknown (uses k))
+plan-asks : (k : Kind) (p x y z : ℕ) (a b c : Record) → planBy k p x y z a b c .counts .unknowns ≡ bit (isUnknown (uses k))
 unfolding aProduct
-plan-asks rs BooleanConstant p x y z = refl
-plan-asks rs BooleanUnknown p x y z = refl
-plan-asks rs NaturalUnknown p x y z = refl
-plan-asks rs IntegerUnknown p x y z = refl
-plan-asks rs NumberConstant p x y z = refl
-plan-asks rs Not p x y z = refl
-plan-asks rs And p x y z = refl
-plan-asks rs Or p x y z = refl
-plan-asks rs Implies p x y z = refl
-plan-asks rs Iff p x y z = refl
-plan-asks rs Sum p x y z = omega (arith, bringing-asks rs x y)
-plan-asks rs Difference p x y z = omega (arith, bringing-asks rs x y)
-plan-asks rs Product p x y z = refl
-plan-asks rs Choice p x y z = omega (arith, bringing-asks rs y z)
-plan-asks rs Greater p x y z = omega (arith, bringing-asks rs x y)
-plan-asks rs Equal p x y z = omega (arith, bringing-asks rs x y)
+plan-asks BooleanConstant p x y z a b c = refl
+plan-asks BooleanUnknown p x y z a b c = refl
+plan-asks NaturalUnknown p x y z a b c = refl
+plan-asks IntegerUnknown p x y z a b c = refl
+plan-asks NumberConstant p x y z a b c = refl
+plan-asks Not p x y z a b c = refl
+plan-asks And p x y z a b c = refl
+plan-asks Or p x y z a b c = refl
+plan-asks Implies p x y z a b c = refl
+plan-asks Iff p x y z a b c = refl
+plan-asks Sum p x y z a b c = omega (arith, bringing-asks a b)
+plan-asks Difference p x y z a b c = omega (arith, bringing-asks a b)
+plan-asks Product p x y z a b c = refl
+plan-asks Choice p x y z a b c = omega (arith, bringing-asks b c)
+plan-asks Greater p x y z a b c = omega (arith, bringing-asks a b)
+plan-asks Equal p x y z a b c = omega (arith, bringing-asks a b)
 
 one-more : (b : Bool) (f : Fields) (fs : List Fields) → length (if b then f ∷ fs else fs) ≡ bit b + length fs
 one-more true f fs = omega arith
@@ -129,7 +129,7 @@ unknowns-counted : (rows : List Fields) (rs : List Record) (so : Counts) (record
 unknowns-counted [] rs so records total p = let e = ap (λ (k : Counts). k .unknowns) (p .1) in omega arith
 unknowns-counted (f ∷ rows) rs so records total p =
     let ih = unknowns-counted rows (rs ++ p .0 ∷ []) (so ⊕ p .1) records total (p .3) in
-    let e : p .1 .unknowns ≡ bit (isUnknown (uses (f .kind))) = ap (λ (k : Counts). k .unknowns) (p .2 .isCounts) ∙ plan-asks rs (f .kind) (f .p) (f .x) (f .y) (f .z) in
+    let e : p .1 .unknowns ≡ bit (isUnknown (uses (f .kind))) = ap (λ (k : Counts). k .unknowns) (p .2 .isCounts) ∙ plan-asks (f .kind) (f .p) (f .x) (f .y) (f .z) (recordAt rs (f .x)) (recordAt rs (f .y)) (recordAt rs (f .z)) in
     omega (arith, one-more (isUnknown (uses (f .kind))) f (unknowns rows))
 
 -- ---- the records, and the map
@@ -139,23 +139,23 @@ records-many [] rs so records total p = rw (sym (p .0)) (omega arith)
 records-many (f ∷ rows) rs so records total p = records-many rows (rs ++ p .0 ∷ []) (so ⊕ p .1) records total (p .3) ∙ rw (length-append rs (p .0 ∷ [])) (omega arith)
 
 -- no row is wider than its places in the map
-plan-narrow : (rs : List Record) (k : Kind) (p x y z : ℕ) → planBy rs k p x y z .widest ≤ 48 → planBy rs k p x y z .width ≤ 48
-plan-narrow rs BooleanConstant p x y z h = h
-plan-narrow rs BooleanUnknown p x y z h = h
-plan-narrow rs NaturalUnknown p x y z h = h
-plan-narrow rs IntegerUnknown p x y z h = h
-plan-narrow rs NumberConstant p x y z h = h
-plan-narrow rs Not p x y z h = h
-plan-narrow rs And p x y z h = h
-plan-narrow rs Or p x y z h = h
-plan-narrow rs Implies p x y z h = h
-plan-narrow rs Iff p x y z h = h
-plan-narrow rs Sum p x y z h = h
-plan-narrow rs Difference p x y z h = h
-plan-narrow rs Product p x y z h = h
-plan-narrow rs Choice p x y z h = h
-plan-narrow rs Greater p x y z h = omega arith
-plan-narrow rs Equal p x y z h = omega arith
+plan-narrow : (k : Kind) (p x y z : ℕ) (a b c : Record) → planBy k p x y z a b c .widest ≤ 48 → planBy k p x y z a b c .width ≤ 48
+plan-narrow BooleanConstant p x y z a b c h = h
+plan-narrow BooleanUnknown p x y z a b c h = h
+plan-narrow NaturalUnknown p x y z a b c h = h
+plan-narrow IntegerUnknown p x y z a b c h = h
+plan-narrow NumberConstant p x y z a b c h = h
+plan-narrow Not p x y z a b c h = h
+plan-narrow And p x y z a b c h = h
+plan-narrow Or p x y z a b c h = h
+plan-narrow Implies p x y z a b c h = h
+plan-narrow Iff p x y z a b c h = h
+plan-narrow Sum p x y z a b c h = h
+plan-narrow Difference p x y z a b c h = h
+plan-narrow Product p x y z a b c h = h
+plan-narrow Choice p x y z a b c h = h
+plan-narrow Greater p x y z a b c h = omega arith
+plan-narrow Equal p x y z a b c h = omega arith
 
 abbrev Narrow : List Record → Type 0
 Narrow [] = Unit {0}
@@ -168,7 +168,7 @@ narrow-snoc (q ∷ rs) r n h = (n .0, narrow-snoc rs r (n .1) h)
 passed-narrow : (rows : List Fields) (rs : List Record) (so : Counts) (records : List Record) (total : Counts) → Passed rs so rows records total → Narrow rs → Narrow records
 passed-narrow [] rs so records total p n = subst Narrow (p .0) n
 passed-narrow (f ∷ rows) rs so records total p n =
-    let e : p .0 .width ≤ 48 = rw (p .2 .isRecord) (plan-narrow rs (f .kind) (f .p) (f .x) (f .y) (f .z) (p .2 .widest)) in
+    let e : p .0 .width ≤ 48 = rw (p .2 .isRecord) (plan-narrow (f .kind) (f .p) (f .x) (f .y) (f .z) (recordAt rs (f .x)) (recordAt rs (f .y)) (recordAt rs (f .z)) (p .2 .widest)) in
     passed-narrow rows (rs ++ p .0 ∷ []) (so ⊕ p .1) records total (p .3) (narrow-snoc rs (p .0) n e)
 
 pages-length : (n : ℕ) (rs : List Record) (cs : List Cell) → CellsFor n rs cs → Narrow rs → length (pages cs) ≡ 48 * length rs

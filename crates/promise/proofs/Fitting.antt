@@ -16,8 +16,8 @@ use Rattle.sheet.specs.declared.Fields.{Fields}
 use Rattle.sheet.specs.declared.Record.{Record}
 use Rattle.sheet.specs.Rows.{uses}
 use Rattle.sheet.specs.Values.{Value, boolean, fraction, valueAt, rowVal, valuesFrom, rowValues}
-use Rattle.sheet.specs.Acceptance.{some, sort, missing, Sheet}
-use Rattle.sheet.proofs.Accepted.{Passes, Passed}
+use Rattle.sheet.specs.Acceptance.{sortsIn, someNotEarlier, missing, recordAt, Sheet}
+use Rattle.sheet.proofs.Accepted.{sortAt, Sorted, Passes, Passed}
 use Rattle.sheet.proofs.Tested.{neither, right-sort, two-sorts}
 use Rattle.sheet.proofs.Widths.{Holds, AllHold, allHold-snoc, hold-at, pair-fits, row-fits}
 use Rattle.promise.specs.Promise.{broughtBy, FitsRow, FitBoth, Wide}
@@ -58,7 +58,7 @@ passed-at (g ∷ before) f behind rs so records total p =
     subst (λ (i : ℕ). PassedAt records i f) (omega (arith, length-append rs (p .0 ∷ []))) (passed-at before f behind (rs ++ p .0 ∷ []) (so ⊕ p .1) records total (p .3))
 
 -- the sort of an earlier row is that of the row among all
-sort-at : (earlier rest : List Record) (x s : ℕ) → x < length earlier → sort earlier x ≡ s → sort (earlier ++ rest) x ≡ s
+sort-at : (earlier rest : List Record) (x s : ℕ) → x < length earlier → sortAt earlier x ≡ s → sortAt (earlier ++ rest) x ≡ s
 sort-at earlier rest x s h e = ap (λ (r : Record). r .sort) (List·getD-append earlier rest missing x h) ∙ e
 
 fits-row : (r : Record) (v : Value) → Holds r v → FitsRow r v
@@ -66,13 +66,13 @@ fits-row r (boolean b) h = tt
 fits-row r (fraction n d) h = h .fits
 
 module _ (earlier rest : List Record) (values : List Value) (h : AllHold (earlier ++ rest) values) where
-  both : (x y : ℕ) → (leb (length earlier) x || (leb (length earlier) y || false)) ≡ false → (sort earlier x ≡ 1) × (sort earlier y ≡ 1) → FitBoth (earlier ++ rest) values (x ∷ y ∷ [])
+  both : (x y : ℕ) → (leb (length earlier) x || (leb (length earlier) y || false)) ≡ false → (sortAt earlier x ≡ 1) × (sortAt earlier y ≡ 1) → FitBoth (earlier ++ rest) values (x ∷ y ∷ [])
   both x y named (isX, isY) =
       let (hx, others) = neither (leb (length earlier) x) (leb (length earlier) y || false) named in
       let (hy, none) = neither (leb (length earlier) y) false others in
       pair-fits (earlier ++ rest) values h x y (sort-at earlier rest x 1 (leb-false (length earlier) x hx) isX) (sort-at earlier rest y 1 (leb-false (length earlier) y hy) isY)
 
-  brought-fits : (k : Kind) (x y z : ℕ) → some (λ s r. leb (length earlier) r) (uses k) x y z ≡ false → some (λ s r. not (eqb (sort earlier r) s)) (uses k) x y z ≡ false
+  brought-fits : (k : Kind) (x y z : ℕ) → someNotEarlier (length earlier) (sortsIn (uses k)) (x ∷ y ∷ z ∷ []) ≡ false → Sorted earlier k x y z
       → FitBoth (earlier ++ rest) values (broughtBy k x y z)
   brought-fits BooleanConstant x y z n s = tt
   brought-fits BooleanUnknown x y z n s = tt
@@ -84,13 +84,13 @@ module _ (earlier rest : List Record) (values : List Value) (h : AllHold (earlie
   brought-fits Or x y z n s = tt
   brought-fits Implies x y z n s = tt
   brought-fits Iff x y z n s = tt
-  brought-fits Sum x y z n s = both x y n (two-sorts (sort earlier x) 1 (sort earlier y) 1 s)
-  brought-fits Difference x y z n s = both x y n (two-sorts (sort earlier x) 1 (sort earlier y) 1 s)
+  brought-fits Sum x y z n s = both x y n (two-sorts (sortAt earlier x) 1 (sortAt earlier y) 1 s)
+  brought-fits Difference x y z n s = both x y n (two-sorts (sortAt earlier x) 1 (sortAt earlier y) 1 s)
   brought-fits Product x y z n s = tt
   brought-fits Choice x y z n s =
-      both y z (neither (leb (length earlier) x) _ n .1) (two-sorts (sort earlier y) 1 (sort earlier z) 1 (right-sort (sort earlier x) 0 _ s .1))
-  brought-fits Greater x y z n s = both x y n (two-sorts (sort earlier x) 1 (sort earlier y) 1 s)
-  brought-fits Equal x y z n s = both x y n (two-sorts (sort earlier x) 1 (sort earlier y) 1 s)
+      both y z (neither (leb (length earlier) x) _ n .1) (two-sorts (sortAt earlier y) 1 (sortAt earlier z) 1 (right-sort (sortAt earlier x) 0 _ s .1))
+  brought-fits Greater x y z n s = both x y n (two-sorts (sortAt earlier x) 1 (sortAt earlier y) 1 s)
+  brought-fits Equal x y z n s = both x y n (two-sorts (sortAt earlier x) 1 (sortAt earlier y) 1 s)
 
 pub all-wide : (sheet : Sheet) (total : Counts) → Passed [] theFirst (sheet .rows) (sheet .records) total → (values : List ℤ) → AllIn (sheet .rows) values
     → (before : List Fields) (f : Fields) (behind : List Fields) → sheet .rows ≡ before ++ f ∷ behind → Wide sheet (rowValues (sheet .rows) values) (length before) f
@@ -100,7 +100,7 @@ all-wide sheet total p values a before f behind e =
     let h : AllHold (sheet .records) vs = table-fits (sheet .rows) [] [] tt theFirst (sheet .records) total p values a in
     let q = passed-at before f behind [] theFirst (sheet .records) total (subst (λ (rows : List Fields). Passed [] theFirst rows (sheet .records) total) e p) in
     record {
-      own = fits-row (getD (sheet .records) (length before) missing) (valueAt vs (length before)) (hold-at (sheet .records) vs h (length before));
+      own = fits-row (recordAt (sheet .records) (length before)) (valueAt vs (length before)) (hold-at (sheet .records) vs h (length before));
       expanded = subst (λ (records : List Record). FitBoth records vs (broughtBy (f .kind) (f .x) (f .y) (f .z))) (sym (q .front))
           (brought-fits (q .earlier) (q .rest) vs (subst (λ (records : List Record). AllHold records vs) (q .front) h) (f .kind) (f .x) (f .y) (f .z) (q .passes .named) (q .passes .sorted));
     }

@@ -16,7 +16,7 @@ use Rattle.circuit.proofs.Assignments.{Holds, holds-of, of-holds, frees, unique
 use Rattle.sheet.specs.declared.Fields.{Fields}
 use Rattle.sheet.specs.declared.Record.{Record}
 use Rattle.sheet.specs.Values.{Value, boolean, fraction, truthOf, valueAt, rowValues, Within}
-use Rattle.sheet.specs.Acceptance.{missing, accepted, Sheet, accept}
+use Rattle.sheet.specs.Acceptance.{recordAt, accepted, Sheet, accept}
 use Rattle.sheet.specs.Steps.{Cell, cellAt, lit, steps, cells, clausesButLast, lastClause, readRows, settings, unknownBits, extension}
 use Rattle.sheet.specs.Calls.{constraint}
 use Rattle.sheet.proofs.Accepted.{Passed, IsAccepted, accepted-tells}
@@ -43,7 +43,7 @@ pub record Known (sheet : Sheet) : Type 0 where
   pub whole : Whole sheet total
   pub ranged : Ranged (sheet .rows)
   pub variables : length (gates 0 (steps (sheet .rows))) ≡ sheet .counts .variables
-  pub ends : eqb (getD (sheet .records) (length (sheet .rows) - 1) missing .sort) 1 ≡ false
+  pub ends : eqb (recordAt (sheet .records) (length (sheet .rows) - 1) .sort) 1 ≡ false
 
 pub known : (table : List ℕ) (sheet : Sheet) → accept table ≡ accepted sheet → Known sheet
 known table sheet e =
@@ -57,7 +57,7 @@ known table sheet e =
       whole = whole;
       ranged = passed-ranged (sheet .rows) [] theFirst (sheet .records) (is .total) (is .passed);
       variables = omega (arith, whole .variables);
-      ends = subst (λ (n : ℕ). eqb (getD (sheet .records) (n - 1) missing .sort) 1 ≡ false) (many ∙ omega arith) (is .ends);
+      ends = subst (λ (n : ℕ). eqb (recordAt (sheet .records) (n - 1) .sort) 1 ≡ false) (many ∙ omega arith) (is .ends);
     }
 
 module _ (sheet : Sheet) (k : Known sheet) where
@@ -77,7 +77,7 @@ module _ (sheet : Sheet) (k : Known sheet) where
       let i = length (sheet .rows) - 1 in
       let vs = rowValues (sheet .rows) values in
       or-false (litTrue s (lit (cells (sheet .rows)) i))
-      ∙ shows-truth s (getD (sheet .records) i missing) (cellAt (cells (sheet .rows)) i) (valueAt vs i) (show-at s et (sheet .records) (cells (sheet .rows)) vs h i) (k .ends)
+      ∙ shows-truth s (recordAt (sheet .records) i) (cellAt (cells (sheet .rows)) i) (valueAt vs i) (show-at s et (sheet .records) (cells (sheet .rows)) vs h i) (k .ends)
 
   pub model-last : (s : Assignment) → allTrue s (clausesButLast (sheet .rows)) ≡ true → clauseTrue s (lastClause (sheet .rows)) ≡ constraint sheet (settings sheet s)
   unfolding clausesButLast steps

@@ -15,7 +15,7 @@ use Rattle.sheet.specs.declared.Kind.the-variants.{BooleanConstant, BooleanUnkn
 use Rattle.sheet.specs.declared.Fields.{Fields}
 use Rattle.sheet.specs.declared.Record.{Record}
 use Rattle.sheet.specs.Values.{Value, boolean, fraction, valueAt, shared, over, rowValues, unknowns, Within}
-use Rattle.sheet.specs.Acceptance.{accepted, Sheet, missing, meeting, widthOver, accept}
+use Rattle.sheet.specs.Acceptance.{meeting, widthOver, recordAt, accepted, Sheet, accept}
 use Rattle.sheet.specs.Steps.{steps, clausesButLast, lastClause, clauses, slotsFor, mapFor, readRows, settings, extension}
 use Rattle.sheet.specs.Calls.{unknownCount, writing, decoding, modelOf, settingsOf, constraint}
 
@@ -53,12 +53,12 @@ abbrev pub FitBoth : List Record → List Value → List ℕ → Type 0
 FitBoth records values [] = Unit {0}
 FitBoth records values (x ∷ []) = Unit {0}
 FitBoth records values (x ∷ y ∷ xs) =
-    Fits (widthOver records (meeting records x y) x) (over values (shared values x y) x)
-    × Fits (widthOver records (meeting records x y) y) (over values (shared values x y) y)
+    Fits (widthOver (meeting (recordAt records x) (recordAt records y)) (recordAt records x)) (over values (shared values x y) x)
+    × Fits (widthOver (meeting (recordAt records x) (recordAt records y)) (recordAt records y)) (over values (shared values x y) y)
 
 -- row i, of fields f
 pub record Wide (sheet : Sheet) (values : List Value) (i : ℕ) (f : Fields) : Type 0 where
-  pub own : FitsRow (getD (sheet .records) i missing) (valueAt values i)
+  pub own : FitsRow (recordAt (sheet .records) i) (valueAt values i)
   pub expanded : FitBoth (sheet .records) values (broughtBy (f .kind) (f .x) (f .y) (f .z))
 
 -- demand 3, for values within their declared bits

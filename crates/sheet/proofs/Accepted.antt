@@ -19,16 +19,32 @@ use Rattle.sheet.specs.declared.Record.{Record}
 use Rattle.sheet.specs.declared.Verdict.{Verdict}
 use Rattle.sheet.specs.declared.Verdict.the-variants.{Pass, Stop}
 use Rattle.sheet.specs.Rows.{readRow, andRows, rowsOf, uses}
-use Rattle.sheet.specs.Acceptance.{outOfRange, some, Plan, sort, planBy, stop_if_else_, recordBy, judgeBy, judge, Outcome, refused, accepted, Sheet, ending, onward, walk, accept}
+use Rattle.sheet.specs.Acceptance.{outOfRange, sortsIn, someNotEarlier, someOfWrongSort, Plan, meeting, larger, planBy, stop_if_else_, recordBy, judgeBy, recordAt, judge, Outcome, refused, accepted, Sheet, ending, onward, walk, accept}
+
+-- what is said of the records of the rows x and y, by their numbers
+abbrev pub sortAt : List Record → ℕ → ℕ
+sortAt rs x = recordAt rs x .sort
+
+abbrev pub meetingAt : List Record → (x y : ℕ) → ℕ
+meetingAt rs x y = meeting (recordAt rs x) (recordAt rs y)
+
+abbrev pub largerAt : List Record → (x y : ℕ) → ℕ
+largerAt rs x y = larger (recordAt rs x) (recordAt rs y)
+
+abbrev pub planAt : List Record → Kind → (p x y z : ℕ) → Plan
+planAt rs k p x y z = planBy k p x y z (recordAt rs x) (recordAt rs y) (recordAt rs z)
+
+abbrev pub Sorted : List Record → Kind → (x y z : ℕ) → Type 0
+Sorted rs k x y z = someOfWrongSort (sortsIn (uses k)) (recordAt rs x ∷ recordAt rs y ∷ recordAt rs z ∷ []) ≡ false
 
 abbrev pub planFor : List Record → Fields → Plan
-planFor earlier f = planBy earlier (f .kind) (f .p) (f .x) (f .y) (f .z)
+planFor earlier f = planAt earlier (f .kind) (f .p) (f .x) (f .y) (f .z)
 
 -- a row that passes after earlier ones, with record r and counts k
 pub record Passes (earlier : List Record) (first : ℕ) (f : Fields) (r : Record) (k : Counts) : Type 0 where
   pub ranged : outOfRange (uses (f .kind)) (f .p) (f .x) (f .z) ≡ false
-  pub named : some (λ s x. leb (length earlier) x) (uses (f .kind)) (f .x) (f .y) (f .z) ≡ false
-  pub sorted : some (λ s x. not (eqb (sort earlier x) s)) (uses (f .kind)) (f .x) (f .y) (f .z) ≡ false
+  pub named : someNotEarlier (length earlier) (sortsIn (uses (f .kind))) (f .x ∷ f .y ∷ f .z ∷ []) ≡ false
+  pub sorted : Sorted earlier (f .kind) (f .x) (f .y) (f .z)
   pub common : planFor earlier f .common ≤ 4096
   pub widest : planFor earlier f .widest ≤ 48
   pub isRecord : r ≡ recordBy first (planFor earlier f)
@@ -51,7 +67,7 @@ pub judge-passes : (earlier : List Record) (first : ℕ) (f : Fields) (r : Recor
 unfolding judge
 judge-passes earlier first f r k e =
     let e₅ = not-stopped 5 _ _ e in
-    let e₆ = not-stopped 6 (some (λ s x. leb (length earlier) x) (uses (f .kind)) (f .x) (f .y) (f .z)) _ (e₅ .1) in
+    let e₆ = not-stopped 6 (someNotEarlier (length earlier) (sortsIn (uses (f .kind))) (f .x ∷ f .y ∷ f .z ∷ [])) _ (e₅ .1) in
     let e₇ = not-stopped 7 _ _ (e₆ .1) in
     let e₈ = not-stopped 8 _ _ (e₇ .1) in
     let e₉ = not-stopped 9 _ _ (e₈ .1) in
@@ -72,7 +88,7 @@ pub record Walked (table : List ℕ) (earlier : List Record) (so : Counts) (rows
   pub passed : Passed earlier so rows (sheet .records) total
   pub counted : sheet .counts ≡ total ⊕ theLast
   pub many : length (sheet .records) ≡ length earlier + left
-  pub ends : eqb (sort (sheet .records) (length (sheet .records) - 1)) 1 ≡ false
+  pub ends : eqb (sortAt (sheet .records) (length (sheet .records) - 1)) 1 ≡ false
   pub read : sheet .rows ≡ rowsOf (length (sheet .records)) table
 
 not-refused : (b : Bool) (n p : ℕ) (o : Outcome Sheet) {sheet : Sheet} → (if b then refused n p else o) ≡ accepted sheet → (b ≡ false) × (o ≡ accepted sheet)
@@ -86,7 +102,7 @@ walk-tells : (table : List ℕ) (left : ℕ) (earlier : List Record) (so : Count
     → walk table earlier so left bytes ≡ accepted sheet → Walked table earlier so (rowsOf left bytes) left sheet
 unfolding walk rowsOf judge
 walk-tells table zero earlier so bytes sheet e =
-    let h = not-refused (eqb (sort earlier (length earlier - 1)) 1) _ _ _ e in
+    let h = not-refused (eqb (sortAt earlier (length earlier - 1)) 1) _ _ _ e in
     let same = same-sheet (h .1) in
     record {
       total = so;
@@ -134,7 +150,7 @@ pub record IsAccepted (table : List ℕ) (sheet : Sheet) : Type 0 where
   pub counted : sheet .counts ≡ total ⊕ theLast
   pub many : length (sheet .records) ≡ length table / 8
   pub some : 0 < length (sheet .records)
-  pub ends : eqb (sort (sheet .records) (length (sheet .records) - 1)) 1 ≡ false
+  pub ends : eqb (sortAt (sheet .records) (length (sheet .records) - 1)) 1 ≡ false
 
 walked-accepted : (table : List ℕ) (sheet : Sheet) → Walked table [] theFirst (rowsOf (length table / 8) table) (length table / 8) sheet → 0 < length table / 8 → IsAccepted table sheet
 walked-accepted table sheet w h =

@@ -26,9 +26,9 @@ use Rattle.sheet.specs.declared.Fields.{Fields}
 use Rattle.sheet.specs.declared.Record.{Record}
 use Rattle.sheet.specs.Rows.{constantIn, uses}
 use Rattle.sheet.specs.Values.{Value, boolean, fraction, truthOf, numerator, denominator, valueAt, is, shared, over, valueBy, rowVal, inBits}
-use Rattle.sheet.specs.Acceptance.{outside, outOfRange, some, sort, missing, planBy, recordBy}
+use Rattle.sheet.specs.Acceptance.{outside, outOfRange, recordBy, recordAt}
 use Rattle.sheet.specs.Steps.{Cell, booleanCell, numberCell, cellAt, bits, lit, below, least, brought, stepsBy, rowSteps, bitsBy}
-use Rattle.sheet.proofs.Accepted.{Passes}
+use Rattle.sheet.proofs.Accepted.{sortAt, planAt, Sorted, Passes}
 use Rattle.sheet.proofs.Tested.{neither, at-least, right-sort, two-sorts, natural-in, integer-in}
 
 -- under s a row's cell shows its value, of the sort that its record says
@@ -79,7 +79,7 @@ iff-law false true = refl
 iff-law false false = refl
 
 module _ (s : Assignment) (et : litTrue s truth ≡ true) where
-  pub show-at : (rs : List Record) (cs : List Cell) (vs : List Value) → ShowAll s rs cs vs → (x : ℕ) → Shows s (getD rs x missing) (cellAt cs x) (valueAt vs x)
+  pub show-at : (rs : List Record) (cs : List Cell) (vs : List Value) → ShowAll s rs cs vs → (x : ℕ) → Shows s (recordAt rs x) (cellAt cs x) (valueAt vs x)
   show-at [] [] [] h zero = record { sorted = refl; reads = ap not et }
   show-at [] [] [] h (suc x) = record { sorted = refl; reads = ap not et }
   show-at [] [] (v ∷ vs) h x = absurd h
@@ -102,19 +102,19 @@ module _ (s : Assignment) (et : litTrue s truth ≡ true) where
   known-reads false = ap not et
 
   module _ (l : List Bool) (rs : List Record) (cs : List Cell) (vs : List Value) (h : ShowAll s rs cs vs) where
-    truth-at : (x : ℕ) → sort rs x ≡ 0 → litTrue s (lit cs x) ≡ is vs x
-    truth-at x e = truth-of (getD rs x missing) (cellAt cs x) (valueAt vs x) (show-at rs cs vs h x) e
+    truth-at : (x : ℕ) → sortAt rs x ≡ 0 → litTrue s (lit cs x) ≡ is vs x
+    truth-at x e = truth-of (recordAt rs x) (cellAt cs x) (valueAt vs x) (show-at rs cs vs h x) e
 
-    neg-at : (x : ℕ) → sort rs x ≡ 0 → litTrue s (neg (lit cs x)) ≡ not (is vs x)
+    neg-at : (x : ℕ) → sortAt rs x ≡ 0 → litTrue s (neg (lit cs x)) ≡ not (is vs x)
     neg-at x e = litTrue-neg s (lit cs x) ∙ ap not (truth-at x e)
 
-    number-at : (x : ℕ) → sort rs x ≡ 1 → Reads s (bits cs x) (numerator (valueAt vs x)) × (below cs x ≡ denominator (valueAt vs x))
-    number-at x e = number-of (getD rs x missing) (cellAt cs x) (valueAt vs x) (show-at rs cs vs h x) e
+    number-at : (x : ℕ) → sortAt rs x ≡ 1 → Reads s (bits cs x) (numerator (valueAt vs x)) × (below cs x ≡ denominator (valueAt vs x))
+    number-at x e = number-of (recordAt rs x) (cellAt cs x) (valueAt vs x) (show-at rs cs vs h x) e
 
-    same-shared : (x y : ℕ) → sort rs x ≡ 1 → sort rs y ≡ 1 → least cs x y ≡ shared vs x y
+    same-shared : (x y : ℕ) → sortAt rs x ≡ 1 → sortAt rs y ≡ 1 → least cs x y ≡ shared vs x y
     same-shared x y ex ey = ap₂ lcm (number-at x ex .1) (number-at y ey .1)
 
-    brought-sem : {A : Type 0} {Q : A → Type 0} (x y : ℕ) (made : List Lit → List Lit → Circuit A) → sort rs x ≡ 1 → sort rs y ≡ 1
+    brought-sem : {A : Type 0} {Q : A → Type 0} (x y : ℕ) (made : List Lit → List Lit → Circuit A) → sortAt rs x ≡ 1 → sortAt rs y ≡ 1
         → ((xs ys : List Lit) → Reads s xs (over vs (shared vs x y) x) → Reads s ys (over vs (shared vs x y) y) → Sem s l (made xs ys) l Q) → Sem s l (brought cs x y made) l Q
     brought-sem x y made ex ey f =
         let nx = number-at x ex in
@@ -125,12 +125,12 @@ module _ (s : Assignment) (et : litTrue s truth ≡ true) where
         (subst₂ (λ (a b : ℕ). Reads s ys (numerator (valueAt vs y) *ℤ pos (a / b))) e (ny .1) ry)))
 
     -- a row of two numbers brought together: a number, or a truth
-    number-sem : {r : Record} {n : ℤ} (x y : ℕ) (made : List Lit → List Lit → Circuit (List Lit)) → r .sort ≡ 1 → (sort rs x ≡ 1) × (sort rs y ≡ 1)
+    number-sem : {r : Record} {n : ℤ} (x y : ℕ) (made : List Lit → List Lit → Circuit (List Lit)) → r .sort ≡ 1 → (sortAt rs x ≡ 1) × (sortAt rs y ≡ 1)
         → ((xs ys : List Lit) → Reads s xs (over vs (shared vs x y) x) → Reads s ys (over vs (shared vs x y) y) → Sem s l (made xs ys) l (λ ls. Reads s ls n))
         → Sem s l (numberCell (least cs x y) (brought cs x y made)) l (λ c. ShowsNumber s r c n (shared vs x y))
     number-sem x y made number e f = sem-bind (brought-sem x y made (e .0) (e .1) f) (λ ls a. sem-ret (record { sorted = number; reads = a; under = same-shared x y (e .0) (e .1) }))
 
-    truth-sem : {r : Record} {b : Bool} (x y : ℕ) (made : List Lit → List Lit → Circuit Lit) → r .sort ≡ 0 → (sort rs x ≡ 1) × (sort rs y ≡ 1)
+    truth-sem : {r : Record} {b : Bool} (x y : ℕ) (made : List Lit → List Lit → Circuit Lit) → r .sort ≡ 0 → (sortAt rs x ≡ 1) × (sortAt rs y ≡ 1)
         → ((xs ys : List Lit) → Reads s xs (over vs (shared vs x y) x) → Reads s ys (over vs (shared vs x y) y) → Sem s l (made xs ys) l (λ u. litTrue s u ≡ b))
         → Sem s l (booleanCell (brought cs x y made)) l (λ c. ShowsTruth s r c b)
     truth-sem x y made isBoolean e f = sem-bind (brought-sem x y made (e .0) (e .1) f) (λ u a. sem-ret (record { sorted = isBoolean; reads = a }))
@@ -145,37 +145,37 @@ module _ (s : Assignment) (et : litTrue s truth ≡ true) where
     integer-row zero v ls h a k = absurd (omega arith)
     integer-row (suc p) v ls h a k = integer-reads s ls p v (below-fits a) k
 
-    sem-by : (first : ℕ) (k : Kind) (p x y z : ℕ) (v : ℤ) → outOfRange (uses k) p x z ≡ false → some (λ w r. not (eqb (sort rs r) w)) (uses k) x y z ≡ false
-        → inBits (uses k) p v ≡ true → Sem s (bitsBy (uses k) p v ++ l) (stepsBy cs k p x y z) l (λ c. Shows s (recordBy first (planBy rs k p x y z)) c (valueBy vs k p x y z v))
+    sem-by : (first : ℕ) (k : Kind) (p x y z : ℕ) (v : ℤ) → outOfRange (uses k) p x z ≡ false → Sorted rs k x y z
+        → inBits (uses k) p v ≡ true → Sem s (bitsBy (uses k) p v ++ l) (stepsBy cs k p x y z) l (λ c. Shows s (recordBy first (planAt rs k p x y z)) c (valueBy vs k p x y z v))
     sem-by first BooleanConstant p x y z v o w b = sem-ret (record { sorted = refl; reads = known-reads (eqb x 1) })
     sem-by first BooleanUnknown p x y z v o w b = sem-new (λ u eu. sem-ret (record { sorted = refl; reads = eu }))
     sem-by first NaturalUnknown p x y z v o w b = sem-bind (sem-bind (unknown-sem s l p v) (λ ls e. sem-ret (natural-row p v ls (natural-in p v b) e))) (λ ls e. sem-ret (record { sorted = refl; reads = e; under = refl }))
     sem-by first IntegerUnknown p x y z v o w b =
         sem-bind (unknown-sem s l p v) (λ ls e. sem-ret (record { sorted = refl; reads = integer-row p v ls (at-least 1 32 p (neither (outside 1 32 p) (outside 1 4096 z) o .0)) (integer-in p v b) e; under = refl }))
     sem-by first NumberConstant p x y z v o w b = sem-ret (record { sorted = refl; reads = constant-reads s et (constantIn x y); under = refl })
-    sem-by first Not p x y z v o w b = sem-ret (record { sorted = refl; reads = neg-at x (right-sort (sort rs x) 0 false w .0) })
+    sem-by first Not p x y z v o w b = sem-ret (record { sorted = refl; reads = neg-at x (right-sort (sortAt rs x) 0 false w .0) })
     sem-by first And p x y z v o w b =
-        let (ex, ey) = two-sorts (sort rs x) 0 (sort rs y) 0 w in
+        let (ex, ey) = two-sorts (sortAt rs x) 0 (sortAt rs y) 0 w in
         sem-new (λ u eu. sem-ret (record { sorted = refl; reads = eu ∙ ap₂ _&&_ (truth-at x ex) (truth-at y ey) }))
     sem-by first Or p x y z v o w b =
-        let (ex, ey) = two-sorts (sort rs x) 0 (sort rs y) 0 w in
+        let (ex, ey) = two-sorts (sortAt rs x) 0 (sortAt rs y) 0 w in
         sem-new (λ u eu. sem-ret (record { sorted = refl; reads = negated-reads u eu (ap₂ _&&_ (neg-at x ex) (neg-at y ey)) ∙ or-law (is vs x) (is vs y) }))
     sem-by first Implies p x y z v o w b =
-        let (ex, ey) = two-sorts (sort rs x) 0 (sort rs y) 0 w in
+        let (ex, ey) = two-sorts (sortAt rs x) 0 (sortAt rs y) 0 w in
         sem-new (λ u eu. sem-ret (record { sorted = refl; reads = negated-reads u eu (ap₂ _&&_ (truth-at x ex) (neg-at y ey)) ∙ implies-law (is vs x) (is vs y) }))
     sem-by first Iff p x y z v o w b =
-        let (ex, ey) = two-sorts (sort rs x) 0 (sort rs y) 0 w in
+        let (ex, ey) = two-sorts (sortAt rs x) 0 (sortAt rs y) 0 w in
         sem-new (λ u eu. sem-ret (record { sorted = refl; reads = negated-reads u eu (ap₂ xorOf (truth-at x ex) (truth-at y ey)) ∙ iff-law (is vs x) (is vs y) }))
-    sem-by first Sum p x y z v o w b = number-sem x y sum refl (two-sorts (sort rs x) 1 (sort rs y) 1 w) (λ xs ys rx ry. sum-reads s et l rx ry)
-    sem-by first Difference p x y z v o w b = number-sem x y difference refl (two-sorts (sort rs x) 1 (sort rs y) 1 w) (λ xs ys rx ry. difference-reads s et l rx ry)
+    sem-by first Sum p x y z v o w b = number-sem x y sum refl (two-sorts (sortAt rs x) 1 (sortAt rs y) 1 w) (λ xs ys rx ry. sum-reads s et l rx ry)
+    sem-by first Difference p x y z v o w b = number-sem x y difference refl (two-sorts (sortAt rs x) 1 (sortAt rs y) 1 w) (λ xs ys rx ry. difference-reads s et l rx ry)
     sem-by first Product p x y z v o w b =
-        let (ex, ey) = two-sorts (sort rs x) 1 (sort rs y) 1 w in
+        let (ex, ey) = two-sorts (sortAt rs x) 1 (sortAt rs y) 1 w in
         sem-bind (product-reads s et l (number-at x ex .0) (number-at y ey .0)) (λ r rr. sem-ret (record { sorted = refl; reads = rr; under = ap₂ _*_ (number-at x ex .1) (number-at y ey .1) }))
     sem-by first Choice p x y z v o w b =
-        let (ex, rest) = right-sort (sort rs x) 0 (not (eqb (sort rs y) 1) || (not (eqb (sort rs z) 1) || false)) w in
-        number-sem y z (choice (lit cs x)) refl (two-sorts (sort rs y) 1 (sort rs z) 1 rest) (λ xs ys rx ry. choice-reads s et l (lit cs x) (is vs x) (truth-at x ex) rx ry)
-    sem-by first Greater p x y z v o w b = truth-sem x y greater refl (two-sorts (sort rs x) 1 (sort rs y) 1 w) (λ xs ys rx ry. greater-reads s et l rx ry)
-    sem-by first Equal p x y z v o w b = truth-sem x y equal refl (two-sorts (sort rs x) 1 (sort rs y) 1 w) (λ xs ys rx ry. equal-reads s et l rx ry)
+        let (ex, rest) = right-sort (sortAt rs x) 0 (not (eqb (sortAt rs y) 1) || (not (eqb (sortAt rs z) 1) || false)) w in
+        number-sem y z (choice (lit cs x)) refl (two-sorts (sortAt rs y) 1 (sortAt rs z) 1 rest) (λ xs ys rx ry. choice-reads s et l (lit cs x) (is vs x) (truth-at x ex) rx ry)
+    sem-by first Greater p x y z v o w b = truth-sem x y greater refl (two-sorts (sortAt rs x) 1 (sortAt rs y) 1 w) (λ xs ys rx ry. greater-reads s et l rx ry)
+    sem-by first Equal p x y z v o w b = truth-sem x y equal refl (two-sorts (sortAt rs x) 1 (sortAt rs y) 1 w) (λ xs ys rx ry. equal-reads s et l rx ry)
 
     pub row-sem : (first : ℕ) (f : Fields) (r : Record) (k : Counts) → Passes rs first f r k → (v : ℤ) → inBits (uses (f .kind)) (f .p) v ≡ true
         → Sem s (bitsBy (uses (f .kind)) (f .p) v ++ l) (rowSteps cs f) l (λ c. Shows s r c (rowVal vs f v))

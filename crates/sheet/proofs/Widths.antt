@@ -23,8 +23,8 @@ use Rattle.sheet.specs.declared.Fields.{Fields}
 use Rattle.sheet.specs.declared.Record.{Record}
 use Rattle.sheet.specs.Rows.{constantIn, uses}
 use Rattle.sheet.specs.Values.{Value, boolean, fraction, numerator, denominator, valueAt, is, shared, over, valueBy, rowVal, inBits}
-use Rattle.sheet.specs.Acceptance.{outside, outOfRange, some, missing, sort, meeting, widthOver, planBy, recordBy}
-use Rattle.sheet.proofs.Accepted.{Passes}
+use Rattle.sheet.specs.Acceptance.{outside, outOfRange, widthOver, recordBy, recordAt}
+use Rattle.sheet.proofs.Accepted.{sortAt, meetingAt, planAt, Sorted, Passes}
 use Rattle.sheet.proofs.Tested.{neither, at-least, right-sort, two-sorts, natural-in, integer-in}
 
 -- ---- a row's record holds its value
@@ -52,7 +52,7 @@ allHold-snoc [] (w ∷ vs) r v h k = absurd h
 allHold-snoc (q ∷ rs) [] r v h k = absurd h
 allHold-snoc (q ∷ rs) (w ∷ vs) r v h k = (h .0, allHold-snoc rs vs r v (h .1) k)
 
-pub hold-at : (rs : List Record) (vs : List Value) → AllHold rs vs → (x : ℕ) → Holds (getD rs x missing) (valueAt vs x)
+pub hold-at : (rs : List Record) (vs : List Value) → AllHold rs vs → (x : ℕ) → Holds (recordAt rs x) (valueAt vs x)
 hold-at [] [] h x = (refl, refl)
 hold-at [] (v ∷ vs) h x = absurd h
 hold-at (r ∷ rs) [] h x = absurd h
@@ -77,33 +77,33 @@ expansion-fits {w} {x} factor h p = by (eqb factor 1) (λ t. eqb→eq factor 1 t
 -- ---- the rows
 
 module _ (earlier : List Record) (values : List Value) (h : AllHold earlier values) where
-  pub number-at : (x : ℕ) → sort earlier x ≡ 1 → HoldsNumber (getD earlier x missing) (numerator (valueAt values x)) (denominator (valueAt values x))
-  number-at x s = number (getD earlier x missing) (valueAt values x) (hold-at earlier values h x) s
+  pub number-at : (x : ℕ) → sortAt earlier x ≡ 1 → HoldsNumber (recordAt earlier x) (numerator (valueAt values x)) (denominator (valueAt values x))
+  number-at x s = number (recordAt earlier x) (valueAt values x) (hold-at earlier values h x) s
 
-  module _ (x y : ℕ) (isX : sort earlier x ≡ 1) (isY : sort earlier y ≡ 1) where
-    pub meeting-is : meeting earlier x y ≡ shared values x y
+  module _ (x y : ℕ) (isX : sortAt earlier x ≡ 1) (isY : sortAt earlier y ≡ 1) where
+    pub meeting-is : meetingAt earlier x y ≡ shared values x y
     meeting-is = rw (number-at x isX .denominator, number-at y isY .denominator)
 
-    pub pair-fits : Fits (widthOver earlier (meeting earlier x y) x) (over values (shared values x y) x)
-        × Fits (widthOver earlier (meeting earlier x y) y) (over values (shared values x y) y)
+    pub pair-fits : Fits (widthOver (meetingAt earlier x y) (recordAt earlier x)) (over values (shared values x y) x)
+        × Fits (widthOver (meetingAt earlier x y) (recordAt earlier y)) (over values (shared values x y) y)
     pair-fits =
         let a = number-at x isX in
         let b = number-at y isY in
         rw (a .denominator, b .denominator) (expansion-fits _ (a .wide) (a .fits), expansion-fits _ (b .wide) (b .fits))
 
-    pub pair-wide : (0 < widthOver earlier (meeting earlier x y) x) × (0 < widthOver earlier (meeting earlier x y) y)
+    pub pair-wide : (0 < widthOver (meetingAt earlier x y) (recordAt earlier x)) × (0 < widthOver (meetingAt earlier x y) (recordAt earlier y))
     pair-wide = (expandedWidth-pos _ (number-at x isX .wide), expandedWidth-pos _ (number-at y isY .wide))
 
     shared-pos : 0 < shared values x y
     shared-pos = lcm-pos _ _ (number-at x isX .positive) (number-at y isY .positive)
 
     of-pair : {w first slots : ℕ} {n : ℤ} → 0 < w → Fits w n
-        → HoldsNumber (record { sort = 1; width = w; denominator = meeting earlier x y; first = first; slots = slots }) n (shared values x y)
+        → HoldsNumber (record { sort = 1; width = w; denominator = meetingAt earlier x y; first = first; slots = slots }) n (shared values x y)
     of-pair wide fits = record { sort = refl; fits = fits; denominator = meeting-is; wide = wide; positive = shared-pos }
 
   -- by kinds, with the fields as variables, because a field of a row cannot be matched
-  kind-fits : (k : Kind) (p x y z : ℕ) → outOfRange (uses k) p x z ≡ false → some (λ s r. not (eqb (sort earlier r) s)) (uses k) x y z ≡ false
-      → (first : ℕ) (v : ℤ) → inBits (uses k) p v ≡ true → Holds (recordBy first (planBy earlier k p x y z)) (valueBy values k p x y z v)
+  kind-fits : (k : Kind) (p x y z : ℕ) → outOfRange (uses k) p x z ≡ false → Sorted earlier k x y z
+      → (first : ℕ) (v : ℤ) → inBits (uses k) p v ≡ true → Holds (recordBy first (planAt earlier k p x y z)) (valueBy values k p x y z v)
   kind-fits BooleanConstant p x y z ranged sorted first v inside = (refl, refl)
   kind-fits BooleanUnknown p x y z ranged sorted first v inside = (refl, refl)
   kind-fits NaturalUnknown p x y z ranged sorted first v inside =
@@ -121,17 +121,17 @@ module _ (earlier : List Record) (values : List Value) (h : AllHold earlier valu
   kind-fits Implies p x y z ranged sorted first v inside = (refl, refl)
   kind-fits Iff p x y z ranged sorted first v inside = (refl, refl)
   kind-fits Sum p x y z ranged sorted first v inside =
-      let (isX, isY) = two-sorts (sort earlier x) 1 (sort earlier y) 1 sorted in
+      let (isX, isY) = two-sorts (sortAt earlier x) 1 (sortAt earlier y) 1 sorted in
       let (a, b) = pair-fits x y isX isY in
       let (wideA, wideB) = pair-wide x y isX isY in
       of-pair x y isX isY (omega arith) (rw add-one (sum-fits wideA wideB a b))
   kind-fits Difference p x y z ranged sorted first v inside =
-      let (isX, isY) = two-sorts (sort earlier x) 1 (sort earlier y) 1 sorted in
+      let (isX, isY) = two-sorts (sortAt earlier x) 1 (sortAt earlier y) 1 sorted in
       let (a, b) = pair-fits x y isX isY in
       let (wideA, wideB) = pair-wide x y isX isY in
       of-pair x y isX isY (omega arith) (rw add-one (difference-fits wideA wideB a b))
   kind-fits Product p x y z ranged sorted first v inside =
-      let (isX, isY) = two-sorts (sort earlier x) 1 (sort earlier y) 1 sorted in
+      let (isX, isY) = two-sorts (sortAt earlier x) 1 (sortAt earlier y) 1 sorted in
       let a = number-at x isX in
       let b = number-at y isY in
       record {
@@ -142,7 +142,7 @@ module _ (earlier : List Record) (values : List Value) (h : AllHold earlier valu
         positive = mul-pos (a .positive) (b .positive);
       }
   kind-fits Choice p x y z ranged sorted first v inside =
-      let (isY, isZ) = two-sorts (sort earlier y) 1 (sort earlier z) 1 (right-sort (sort earlier x) 0 _ sorted .1) in
+      let (isY, isZ) = two-sorts (sortAt earlier y) 1 (sortAt earlier z) 1 (right-sort (sortAt earlier x) 0 _ sorted .1) in
       let (a, b) = pair-fits y z isY isZ in
       let (wideA, wideB) = pair-wide y z isY isZ in
       of-pair y z isY isZ (omega arith) (choice-fits (is values x) a b)

@@ -32,19 +32,24 @@ outOfRange anInteger p x z = outside 1 32 p || outside 1 4096 z
 outOfRange aConstant p x z = outside 1 4096 z
 outOfRange (theRows sorts) p x z = false
 
--- whether some row that x, y or z names is wrong, by a test of the sort wanted and the row
-abbrev pub someOf : (wrong : ℕ → ℕ → Bool) → (sorts rows : List ℕ) → Bool
-someOf wrong [] rows = false
-someOf wrong (s ∷ ss) [] = false
-someOf wrong (s ∷ ss) (x ∷ xs) = wrong s x || someOf wrong ss xs
+-- of the references x, y, z, as far as the kind has them: whether one is not earlier, whether one is of the wrong sort
+abbrev pub sortsIn : Uses → List ℕ
+sortsIn aFlag = []
+sortsIn aBoolean = []
+sortsIn aNatural = []
+sortsIn anInteger = []
+sortsIn aConstant = []
+sortsIn (theRows sorts) = sorts
 
-abbrev pub some : (wrong : ℕ → ℕ → Bool) → Uses → (x y z : ℕ) → Bool
-some wrong aFlag x y z = false
-some wrong aBoolean x y z = false
-some wrong aNatural x y z = false
-some wrong anInteger x y z = false
-some wrong aConstant x y z = false
-some wrong (theRows sorts) x y z = someOf wrong sorts (x ∷ y ∷ z ∷ [])
+abbrev pub someNotEarlier : (rows : ℕ) → (sorts xs : List ℕ) → Bool
+someNotEarlier rows [] xs = false
+someNotEarlier rows (s ∷ ss) [] = false
+someNotEarlier rows (s ∷ ss) (x ∷ xs) = leb rows x || someNotEarlier rows ss xs
+
+abbrev pub someOfWrongSort : (sorts : List ℕ) → List Record → Bool
+someOfWrongSort [] rs = false
+someOfWrongSort (s ∷ ss) [] = false
+someOfWrongSort (s ∷ ss) (r ∷ rs) = not (eqb (r .sort) s) || someOfWrongSort ss rs
 
 -- what a row comes to: its record's sort, width and denominator; the denominator that 8 looks at and the width that 9 looks at
 -- (no expansion is wider than the sum, choice or comparison that needs it); and what it counts
@@ -66,51 +71,38 @@ numberPlan w d k = record { sort = 1; width = w; denominator = d; common = d; wi
 abbrev pub comparisonPlan : (w d : ℕ) → Counts → Plan
 comparisonPlan w d k = record { sort = 0; width = 1; denominator = 1; common = d; widest = w; counts = k }
 
--- what stands for a row that is not earlier, which 6 refuses first
-abbrev pub missing : Record
-missing = record { sort = 0; width = 1; denominator = 1; first = 0; slots = 0 }
+-- the least common multiple of two rows' denominators
+abbrev pub meeting : Record → Record → ℕ
+meeting a b = lcm (a .denominator) (b .denominator)
 
-module _ (earlier : List Record) where
-  abbrev pub sort : ℕ → ℕ
-  sort x = getD earlier x missing .sort
+-- a row's width brought to the denominator d; the larger of two rows' so brought; what bringing them counts
+abbrev pub widthOver : (d : ℕ) → Record → ℕ
+widthOver d a = expandedWidth (a .width) (d / a .denominator)
 
-  abbrev pub width : ℕ → ℕ
-  width x = getD earlier x missing .width
+abbrev pub larger : Record → Record → ℕ
+larger a b = max (widthOver (meeting a b) a) (widthOver (meeting a b) b)
 
-  abbrev pub den : ℕ → ℕ
-  den x = getD earlier x missing .denominator
+abbrev pub bringing : Record → Record → Counts
+bringing a b = anExpansion (a .width) (meeting a b / a .denominator) ⊕ anExpansion (b .width) (meeting a b / b .denominator)
 
-  -- the least common multiple of two rows' denominators
-  abbrev pub meeting : ℕ → ℕ → ℕ
-  meeting x y = lcm (den x) (den y)
-
-  -- the width of row x brought to the denominator d; the larger of two so brought; what bringing them counts
-  abbrev pub widthOver : (d x : ℕ) → ℕ
-  widthOver d x = expandedWidth (width x) (d / den x)
-
-  abbrev pub larger : ℕ → ℕ → ℕ
-  larger x y = max (widthOver (meeting x y) x) (widthOver (meeting x y) y)
-
-  abbrev pub bringing : ℕ → ℕ → Counts
-  bringing x y = anExpansion (width x) (meeting x y / den x) ⊕ anExpansion (width y) (meeting x y / den y)
-
-  abbrev pub planBy : Kind → (p x y z : ℕ) → Plan
-  planBy BooleanConstant p x y z = booleanPlan nothing
-  planBy BooleanUnknown p x y z = booleanPlan (anUnknown 1)
-  planBy NaturalUnknown p x y z = numberPlan (p + 1) z (anUnknown p)
-  planBy IntegerUnknown p x y z = numberPlan p z (anUnknown p)
-  planBy NumberConstant p x y z = numberPlan (fewest (constantIn x y)) z nothing
-  planBy Not p x y z = booleanPlan nothing
-  planBy And p x y z = booleanPlan anAnd
-  planBy Or p x y z = booleanPlan anAnd
-  planBy Implies p x y z = booleanPlan anAnd
-  planBy Iff p x y z = booleanPlan aXor
-  planBy Sum p x y z = numberPlan (larger x y + 1) (meeting x y) (bringing x y ⊕ times (larger x y + 1) addingBit)
-  planBy Difference p x y z = numberPlan (larger x y + 1) (meeting x y) (bringing x y ⊕ times (larger x y + 1) addingBit)
-  planBy Product p x y z = numberPlan (width x + width y) (den x * den y) (aProduct (width x + width y))
-  planBy Choice p x y z = numberPlan (larger y z) (meeting y z) (bringing y z ⊕ times (larger y z) aMux)
-  planBy Greater p x y z = comparisonPlan (larger x y) (meeting x y) (bringing x y ⊕ times (larger x y) orderingBit)
-  planBy Equal p x y z = comparisonPlan (larger x y) (meeting x y) (bringing x y ⊕ times (larger x y) matchingBit)
+-- a, b and c are the records of the rows x, y and z
+abbrev pub planBy : Kind → (p x y z : ℕ) → (a b c : Record) → Plan
+planBy BooleanConstant p x y z a b c = booleanPlan nothing
+planBy BooleanUnknown p x y z a b c = booleanPlan (anUnknown 1)
+planBy NaturalUnknown p x y z a b c = numberPlan (p + 1) z (anUnknown p)
+planBy IntegerUnknown p x y z a b c = numberPlan p z (anUnknown p)
+planBy NumberConstant p x y z a b c = numberPlan (fewest (constantIn x y)) z nothing
+planBy Not p x y z a b c = booleanPlan nothing
+planBy And p x y z a b c = booleanPlan anAnd
+planBy Or p x y z a b c = booleanPlan anAnd
+planBy Implies p x y z a b c = booleanPlan anAnd
+planBy Iff p x y z a b c = booleanPlan aXor
+planBy Sum p x y z a b c = numberPlan (larger a b + 1) (meeting a b) (bringing a b ⊕ times (larger a b + 1) addingBit)
+planBy Difference p x y z a b c = numberPlan (larger a b + 1) (meeting a b) (bringing a b ⊕ times (larger a b + 1) addingBit)
+planBy Product p x y z a b c = numberPlan (a .width + b .width) (a .denominator * b .denominator) (aProduct (a .width + b .width))
+planBy Choice p x y z a b c = numberPlan (larger b c) (meeting b c) (bringing b c ⊕ times (larger b c) aMux)
+planBy Greater p x y z a b c = comparisonPlan (larger a b) (meeting a b) (bringing a b ⊕ times (larger a b) orderingBit)
+planBy Equal p x y z a b c = comparisonPlan (larger a b) (meeting a b) (bringing a b ⊕ times (larger a b) matchingBit)
 
 infixr 5 stop_if_else_
 abbrev pub stop_if_else_ : ℕ → Bool → Verdict → Verdict
@@ -121,18 +113,26 @@ stop_if_else_ n false v = v
 abbrev pub recordBy : (first : ℕ) → Plan → Record
 recordBy first m = record { sort = m .sort; width = m .width; denominator = m .denominator; first = first; slots = m .counts .slots }
 
-abbrev pub judgeBy : List Record → (first : ℕ) → Kind → (p x y z : ℕ) → Verdict
-judgeBy earlier first k p x y z =
+abbrev pub judgeBy : (rows first : ℕ) → Kind → (p x y z : ℕ) → (a b c : Record) → Verdict
+judgeBy rows first k p x y z a b c =
     stop 5 if outOfRange (uses k) p x z else
-    stop 6 if some (λ s r. leb (length earlier) r) (uses k) x y z else
-    stop 7 if some (λ s r. not (eqb (sort earlier r) s)) (uses k) x y z else
-    stop 8 if ltb 4096 (planBy earlier k p x y z .common) else
-    stop 9 if ltb 48 (planBy earlier k p x y z .widest) else
-    Pass (recordBy first (planBy earlier k p x y z)) (planBy earlier k p x y z .counts)
+    stop 6 if someNotEarlier rows (sortsIn (uses k)) (x ∷ y ∷ z ∷ []) else
+    stop 7 if someOfWrongSort (sortsIn (uses k)) (a ∷ b ∷ c ∷ []) else
+    stop 8 if ltb 4096 (planBy k p x y z a b c .common) else
+    stop 9 if ltb 48 (planBy k p x y z a b c .widest) else
+    Pass (recordBy first (planBy k p x y z a b c)) (planBy k p x y z a b c .counts)
 
-unfoldable pub judge : List Record → (first : ℕ) → Reading → Verdict
+-- what stands for a row that is not earlier, which 6 refuses first
+abbrev pub missing : Record
+missing = record { sort = 0; width = 1; denominator = 1; first = 0; slots = 0 }
+
+abbrev pub recordAt : List Record → ℕ → Record
+recordAt records x = getD records x missing
+
+unfoldable pub judge : (earlier : List Record) (first : ℕ) → Reading → Verdict
 judge earlier first (Refused n) = Stop n
-judge earlier first (Read f) = judgeBy earlier first (f .kind) (f .p) (f .x) (f .y) (f .z)
+judge earlier first (Read f) =
+    judgeBy (length earlier) first (f .kind) (f .p) (f .x) (f .y) (f .z) (recordAt earlier (f .x)) (recordAt earlier (f .y)) (recordAt earlier (f .z))
 
 -- refused, with the place; or what was asked for
 pub data Outcome (A : Type 0) : Type 0 where
@@ -148,7 +148,7 @@ pub record Sheet : Type 0 where
 -- the last row must be Boolean
 abbrev pub ending : List ℕ → List Record → Counts → Outcome Sheet
 ending table records so =
-    if eqb (sort records (length records - 1)) 1 then refused 10 (length records - 1) else
+    if eqb (recordAt records (length records - 1) .sort) 1 then refused 10 (length records - 1) else
     accepted (record { rows = rowsOf (length records) table; records = records; counts = so ⊕ theLast })
 
 abbrev pub onward : Verdict → List Record → Counts → (List Record → Counts → Outcome Sheet) → Outcome Sheet

@@ -9,7 +9,7 @@ use Rattle.whole.specs.Bits.{bit}
 use Rattle.circuit.specs.Literals.{Assignment, clauseTrue}
 use Rattle.sheet.specs.declared.Record.{Record}
 use Rattle.sheet.specs.Values.{Value, numerator, truthOf, valueAt, rowValues, unknowns, eachInBits}
-use Rattle.sheet.specs.Acceptance.{Outcome, refused, accepted, Sheet, missing, accept}
+use Rattle.sheet.specs.Acceptance.{Outcome, refused, accepted, recordAt, Sheet, accept}
 use Rattle.sheet.specs.Steps.{clauses, settings, extension}
 
 module _ {A B : Type 0} where
@@ -68,7 +68,7 @@ rowClauses table slotRoom row = do
   sheet ← accept table
   refuse 13 unless sheet .counts .slots fit slotRoom
   refuse 22 at rowCount sheet if leb (rowCount sheet) row
-  accepted (getD (sheet .records) row missing)
+  accepted (recordAt (sheet .records) row)
 
 -- evaluating needs a result for each row, extending a byte for each variable
 unfoldable pub choosing : (table : List ℕ) (values : List ℤ) → Outcome Sheet
