@@ -1,9 +1,9 @@
--- Document 01's examples that are marked *, and one sheet of every kind, as one table with one theorem, proved by computing.
--- Assumes nothing.
+-- Document 01's examples that are marked *, each refusal of a table once, and one sheet of every kind, as one table with one
+-- theorem, proved by computing. Assumes nothing.
 use mathlib.Core.Path.{_≡_, refl}
 use mathlib.Core.List.{List, [], _∷_, _++_, map}
 use Prim.Native.Nat.{ℕ, _/_, _%_}
-use lib.ListN.{length}
+use lib.ListN.{length, replicate}
 use lib.IntN.{ℤ, pos, negsuc}
 use Rattle.whole.specs.Bits.{bit}
 use Rattle.whole.specs.Divisors.{gcd, lcm}
@@ -128,6 +128,21 @@ examples =
     ∷ (sizes aboveTwo gives pos 9 ∷ pos 26 ∷ pos 100 ∷ [])
     ∷ (made aboveTwo gives pos 9 ∷ pos 26 ∷ pos 100 ∷ [])
     ∷ (truths aboveTwo (pos 0 ∷ pos 1 ∷ pos 2 ∷ pos 3 ∷ []) gives pos 0 ∷ pos 0 ∷ pos 0 ∷ pos 1 ∷ [])
+    -- refusals 1 to 10 with their places; and 4 before 5, 6 before 7, 8 before 9
+    ∷ (widths [] gives pos 1 ∷ pos 0 ∷ [])
+    ∷ (widths (0 ∷ end) gives pos 1 ∷ pos 0 ∷ [])
+    ∷ (widths (replicate 2056 0) gives pos 2 ∷ pos 0 ∷ [])
+    ∷ (widths (end ++ row 0x05 0 0 0 0) gives pos 3 ∷ pos 1 ∷ [])
+    ∷ (widths (end ++ row 0x01 1 0 0 0) gives pos 4 ∷ pos 1 ∷ [])
+    ∷ (widths (end ++ row 0x00 0 2 0 0) gives pos 5 ∷ pos 1 ∷ [])
+    ∷ (widths (end ++ row 0x10 0 1 0 0) gives pos 6 ∷ pos 1 ∷ [])
+    ∷ (widths (end ++ row 0x20 0 0 0 0) gives pos 7 ∷ pos 1 ∷ [])
+    ∷ (widths (number 1 64 ++ number 1 65 ++ row 0x22 0 0 1 0) gives pos 8 ∷ pos 2 ∷ [])
+    ∷ (widths (row 0x03 24 0 0 1 ++ row 0x03 25 0 0 1 ++ row 0x22 0 0 1 0) gives pos 9 ∷ pos 2 ∷ [])
+    ∷ (widths (end ++ number 1 1) gives pos 10 ∷ pos 1 ∷ [])
+    ∷ (widths (row 0x02 0 1 0 1) gives pos 4 ∷ pos 0 ∷ [])
+    ∷ (widths (number 1 1 ++ row 0x23 0 0 0 1) gives pos 6 ∷ pos 1 ∷ [])
+    ∷ (widths (row 0x03 32 0 0 64 ++ row 0x03 32 0 0 65 ++ row 0x22 0 0 1 0) gives pos 8 ∷ pos 2 ∷ [])
     -- a sheet of every kind: by values, and by steps
     ∷ (evaluations everyKind (pos 1 ∷ pos 5 ∷ negsuc 3 ∷ []) gives numeratorsHigh)
     ∷ (readings everyKind (pos 1 ∷ pos 5 ∷ negsuc 3 ∷ []) gives numeratorsHigh)
