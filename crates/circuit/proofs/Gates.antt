@@ -7,6 +7,8 @@ use Prim.Native.Nat.{ℕ}
 use lib.ListN.{getD}
 use Rattle.circuit.specs.Literals.{Lit, plus, minus, neg, Assignment, litTrue, allTrue}
 use Rattle.circuit.specs.Gates.{Gate, fixed, free, and, xor, mux, maj, gateClauses, gateVal}
+-- named so that the examples are checked before every law: a wrong definition is refused first by what an example computes
+use Rattle.circuit.proofs.Examples
 
 pub litTrue-neg : (s : Assignment) (l : Lit) → litTrue s (neg l) ≡ not (litTrue s l)
 litTrue-neg s (plus i) = refl
