@@ -7,15 +7,18 @@ use Prim.Native.Nat.{ℕ}
 use lib.ListN.{getD}
 use Rattle.circuit.specs.Literals.{Lit, plus, minus, neg, Assignment, litTrue, allTrue}
 use Rattle.circuit.specs.Gates.{Gate, fixed, free, and, xor, mux, maj, gateClauses, gateVal}
+-- named so that the examples are checked before every law: a wrong definition is refused first by what an example computes
+use Rattle.circuit.proofs.Examples
 
 pub litTrue-neg : (s : Assignment) (l : Lit) → litTrue s (neg l) ≡ not (litTrue s l)
 litTrue-neg s (plus i) = refl
 litTrue-neg s (minus i) = sym (Bool·not-not (getD s i false))
 
-abbrev both : (Bool → Bool) → Bool
+both : (Bool → Bool) → Bool
 both f = f true && f false
 
 both-at : (f : Bool → Bool) → both f ≡ true → (b : Bool) → f b ≡ true
+unfolding both
 both-at f e true = and-eq-true-iff (f true) (f false) .0 e .0
 both-at f e false = and-eq-true-iff (f true) (f false) .0 e .1
 
@@ -35,13 +38,10 @@ right gate g a b c = Bool·beq (allTrue (g ∷ a ∷ b ∷ c ∷ []) (gateClause
 
 table : (gate : Gate) → both (λ g. both (λ a. both (λ b. both (λ c. right gate g a b c)))) ≡ true → (g a b c : Bool)
     → allTrue (g ∷ a ∷ b ∷ c ∷ []) (gateClauses 0 gate) ≡ Bool·beq g (gateVal (g ∷ a ∷ b ∷ c ∷ []) g gate)
-table gate e g a b c =
-    let e₁ = both-at (λ g. both (λ a. both (λ b. both (λ c. right gate g a b c)))) e g in
-    let e₂ = both-at (λ a. both (λ b. both (λ c. right gate g a b c))) e₁ a in
-    let e₃ = both-at (λ b. both (λ c. right gate g a b c)) e₂ b in
-    beq-eq _ _ (both-at (λ c. right gate g a b c) e₃ c)
+table gate e g a b c = beq-eq _ _ (both-at _ (both-at _ (both-at _ (both-at _ e g) a) b) c)
 
 gate-law : (s : Assignment) (i : ℕ) (g : Gate) → allTrue s (gateClauses i g) ≡ Bool·beq (getD s i false) (gateVal s (getD s i false) g)
+unfolding both
 gate-law s i fixed = table fixed refl (getD s i false) true true true
 gate-law s i free = sym (beq-refl (getD s i false))
 gate-law s i (and a b) = simp litTrue-neg (table (and (plus 1) (plus 2)) refl (getD s i false) (litTrue s a) (litTrue s b) true)

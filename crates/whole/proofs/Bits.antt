@@ -13,7 +13,7 @@ use lib.Signed.{mag, _≤ℤ_, _<ℤ_}
 use Rattle.whole.specs.Bits.{bit, toInt, Fits, odd, half, bitsOf, lastOf}
 use Rattle.whole.proofs.Differences.{Dif, dif-shift, dif-eq, dif-same, dif-pos, dif-negsuc, dif-neg, dif-add, dif-mul, dif-mag}
 
--- the range of k + 1 bits as one bound, since mag is n both for n and for -(n + 1)
+-- the range of k + 1 bits as one bound
 abbrev pub Below : ℕ → ℤ → Type 0
 Below k z = mag z < 2 ^ k
 
@@ -34,6 +34,10 @@ fits-below {k} {z} h = let e : suc k - 1 ≡ k = omega arith in fits-iff .1 (rw 
 
 pub below-fits : {k : ℕ} {z : ℤ} → Fits (suc k) z → Below k z
 below-fits {k} {z} f = let e : suc k - 1 ≡ k = omega arith in rw e at (fits-iff .0 f)
+
+pub bit-not : (b : Bool) → bit (not b) + bit b ≡ 1
+bit-not true = refl
+bit-not false = refl
 
 -- bits that stand for a number: at least the sign is there
 pub record Stands (bs : List Bool) (z : ℤ) : Type 0 where
@@ -69,13 +73,11 @@ more-signs k b (c ∷ bs) = rw (more-signs k c bs)
 -- bits are in their range
 up-lt : (b : Bool) (bs : List Bool) → up (b ∷ bs) < 2 ^ length bs
 up-lt b [] = omega arith
-up-lt true (c ∷ bs) = let ih = up-lt c bs in rw pow-suc (omega arith)
-up-lt false (c ∷ bs) = let ih = up-lt c bs in rw pow-suc (omega arith)
+up-lt b (c ∷ bs) = rw pow-suc (omega (arith, up-lt c bs, bit-not b))
 
 down-le : (b : Bool) (bs : List Bool) → down (b ∷ bs) ≤ 2 ^ length bs
-down-le true [] = omega arith
-down-le false [] = omega arith
-down-le b (c ∷ bs) = let ih = down-le c bs in rw pow-suc (omega arith)
+down-le b [] = omega (arith, bit-not b)
+down-le b (c ∷ bs) = rw pow-suc (omega (arith, down-le c bs))
 
 pub toInt-fits : (bs : List Bool) → Fits (length bs) (toInt bs)
 toInt-fits [] = fits-iff .1 (omega arith)
@@ -92,10 +94,6 @@ bit-of : (n : ℕ) → n < 2 → bit (eqb n 1) ≡ n
 bit-of zero h = refl
 bit-of (suc zero) h = refl
 bit-of (suc (suc n)) h = absurd (omega arith)
-
-pub bit-not : (b : Bool) → bit (not b) + bit b ≡ 1
-bit-not true = refl
-bit-not false = refl
 
 odd-half : (z : ℤ) → pos (bit (odd z)) +ℤ pos 2 *ℤ half z ≡ z
 odd-half (pos n) = let h = bit-of (n % 2) (omega arith) in ap pos (omega arith)
@@ -120,18 +118,20 @@ bitsOf-length zero z = refl
 bitsOf-length (suc k) z = ap suc (bitsOf-length k (half z))
 
 -- bits of one width that stand for one number are the same bits
+bit-inj : (x y : Bool) → bit x ≡ bit y → x ≡ y
+bit-inj true true h = refl
+bit-inj true false h = absurd (omega arith)
+bit-inj false true h = absurd (omega arith)
+bit-inj false false h = refl
+
 same-bits : (x : Bool) (xs : List Bool) (y : Bool) (ys : List Bool) → length xs ≡ length ys
     → up (x ∷ xs) + down (y ∷ ys) ≡ up (y ∷ ys) + down (x ∷ xs) → x ∷ xs ≡ y ∷ ys
-same-bits true [] true [] l h = refl
-same-bits true [] false [] l h = absurd (omega arith)
-same-bits false [] true [] l h = absurd (omega arith)
-same-bits false [] false [] l h = refl
+same-bits x [] y [] l h = ap (λ b. b ∷ []) (bit-inj x y (omega arith))
 same-bits x [] y (y₁ ∷ ys) l h = absurd (omega arith)
 same-bits x (x₁ ∷ xs) y [] l h = absurd (omega arith)
-same-bits true (x₁ ∷ xs) true (y₁ ∷ ys) l h = ap (λ bs. true ∷ bs) (same-bits x₁ xs y₁ ys (omega arith) (omega arith))
-same-bits true (x₁ ∷ xs) false (y₁ ∷ ys) l h = absurd (omega arith)
-same-bits false (x₁ ∷ xs) true (y₁ ∷ ys) l h = absurd (omega arith)
-same-bits false (x₁ ∷ xs) false (y₁ ∷ ys) l h = ap (λ bs. false ∷ bs) (same-bits x₁ xs y₁ ys (omega arith) (omega arith))
+same-bits x (x₁ ∷ xs) y (y₁ ∷ ys) l h =
+    let first : bit x ≡ bit y = omega (arith, bit-not x, bit-not y) in
+    ap₂ _∷_ (bit-inj x y first) (same-bits x₁ xs y₁ ys (omega arith) (omega arith))
 
 pub toInt-inj : (xs ys : List Bool) → length xs ≡ length ys → toInt xs ≡ toInt ys → xs ≡ ys
 toInt-inj [] [] l h = refl
@@ -156,16 +156,14 @@ val (b ∷ bs) = bit b + 2 * val bs
 
 pub val-lt : (bs : List Bool) → val bs < 2 ^ length bs
 val-lt [] = omega arith
-val-lt (true ∷ bs) = let ih = val-lt bs in rw pow-suc (omega arith)
-val-lt (false ∷ bs) = let ih = val-lt bs in rw pow-suc (omega arith)
+val-lt (b ∷ bs) = rw pow-suc (omega (arith, val-lt bs, bit-not b))
 
 odd-first : (b : Bool) (n : ℕ) → odd (pos (bit b + 2 * n)) ≡ b
 odd-first true n = let e : (1 + 2 * n) % 2 ≡ 1 = omega arith in rw e
 odd-first false n = let e : (0 + 2 * n) % 2 ≡ 0 = omega arith in rw e
 
 half-rest : (b : Bool) (n : ℕ) → (bit b + 2 * n) / 2 ≡ n
-half-rest true n = omega arith
-half-rest false n = omega arith
+half-rest b n = omega (arith, bit-not b)
 
 pub bitsOf-val : (bs : List Bool) → bitsOf (length bs) (pos (val bs)) ≡ bs
 bitsOf-val [] = refl

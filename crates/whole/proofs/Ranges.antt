@@ -18,6 +18,7 @@ fits-up {j} {k} {z} h p =
     let m = pow-mono {i = j - 1} {j = k - 1} (omega arith) in
     fits-iff .1 (omega (arith, fits-iff .0 p))
 
+-- a natural of p bits has one more, its sign
 pub natural-fits : {n p : ℕ} → n < 2 ^ p → Fits (suc p) (pos n)
 natural-fits h = fits-below h
 
