@@ -1,5 +1,4 @@
 -- Examples, then the laws of gates and circuits: what they mean, then what they count. Assumes nothing.
-pub mod Examples
 pub mod Gates
 pub mod Wellformed
 pub mod Assignments

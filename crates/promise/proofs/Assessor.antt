@@ -1,24 +1,23 @@
 -- The assessor's two sentences: settings meet the sheet, and none is lost. Assumes nothing.
-use mathlib.Core.Path.{_≡_, refl, sym, _∙_, ap, ap₂, subst}
+use mathlib.Core.Path.{_≡_, refl, sym, _∙_, ap, subst}
 use mathlib.Core.Bool.{Bool, true, false, not, _&&_, and-eq-true-iff, and-true, false≢true}
-use mathlib.Core.List.{List, [], _∷_, _++_, map}
+use mathlib.Core.List.{List, [], _∷_, map}
 use Prim.Native.Nat.{ℕ, _+_, _*_, _≤_}
-use native.Mathlib.Omega.{arith}
 use borrow.Author.Tests.{le-ltb, eq-eqb, not-false, eqb-true}
 use lib.Dec.{eqb, ltb}
 use lib.ListN.{length, length-map}
 use lib.IntN.{ℤ}
 use Rattle.whole.specs.Bits.{bit}
-use Rattle.circuit.specs.Literals.{Assignment, Clause, clauseTrue, allTrue}
+use Rattle.circuit.specs.Literals.{Assignment, clauseTrue, allTrue}
 use Rattle.circuit.proofs.Assignments.{allTrue-append}
 use Rattle.sheet.specs.declared.Fields.{Fields}
 use Rattle.sheet.specs.Values.{every, Within}
-use Rattle.sheet.specs.Acceptance.{Outcome, accepted, Sheet, accept}
+use Rattle.sheet.specs.Acceptance.{accepted, Sheet, accept}
 use Rattle.sheet.specs.Steps.{clausesButLast, lastClause, clauses, settings, extension}
-use Rattle.sheet.specs.Calls.{checking, writing, decodable, decoding, assigned, modelOf, settingsOf, constraint, falseAt, rowCount, unknownCount}
-use Rattle.sheet.proofs.Called.{bound-accepts, then-accepts, not-refused, passes-by, first-false, every-clause}
-use Rattle.promise.specs.Promise.{Carries, Promise, SettingsMeetTheSheet, NoneLost, NoneExists}
-use Rattle.promise.proofs.Promise.{Known, known, model-within, model-last, demand-three}
+use Rattle.sheet.specs.Calls.{checking, writing, decodable, decoding, assigned, constraint, falseAt, rowCount, unknownCount}
+use Rattle.sheet.proofs.Called.{bound-accepts, not-refused, first-false, every-clause}
+use Rattle.promise.specs.Promise.{SettingsMeetTheSheet, NoneLost, NoneExists}
+use Rattle.promise.proofs.Promise.{known, model-within, model-last, demand-three}
 
 -- ---- what decoding tells
 

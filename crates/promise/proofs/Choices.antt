@@ -1,16 +1,14 @@
 -- Chosen values, row by row: within their bits, as bits, read back from bits, and found again among the rows' values. Assumes nothing.
-use mathlib.Core.Path.{_≡_, refl, sym, _∙_, ap, ap₂, subst}
-use mathlib.Core.Bool.{Bool, true, false, _&&_, _||_, false≢true, and-eq-true-iff}
+use mathlib.Core.Path.{_≡_, refl, sym, _∙_, ap, ap₂}
+use mathlib.Core.Bool.{Bool, true, false, _||_, false≢true, and-eq-true-iff}
 use mathlib.Core.List.{List, [], _∷_, _++_, append-assoc, append-nil}
-use Prim.Native.Nat.{ℕ, zero, suc, _+_, _-_, _^_, _≤_, _<_}
+use Prim.Native.Nat.{ℕ, zero, suc, _+_, _≤_}
 use native.Mathlib.Omega.{arith}
-use lib.Dec.{T, eqb, lt→ltb}
-use lib.ListN.{length, getD, take, drop, length-append, length-drop, length-take, take-append-drop}
+use lib.ListN.{length, getD, take, drop, length-append, length-drop, take-append-drop}
 use lib.Seq.{length-take-le}
-use lib.IntN.{ℤ, pos, negsuc}
-use lib.Signed.{leZ, ltZ}
+use lib.IntN.{ℤ, pos}
 use Rattle.whole.specs.Tests.{if_then_else_, eqZ}
-use Rattle.whole.specs.Bits.{bit, toInt, Fits, bitsOf}
+use Rattle.whole.specs.Bits.{bit, toInt}
 use Rattle.whole.proofs.Tests.{eqZ-iff}
 use Rattle.whole.proofs.Bits.{toInt-below, fits-below, bitsOf-length, bitsOf-toInt, val, val-lt, bitsOf-val}
 use Rattle.sheet.specs.declared.Kind.{Kind}

@@ -3,18 +3,17 @@
 use mathlib.Core.Path.{_≡_, refl, sym, _∙_, ap, subst}
 use mathlib.Core.Bool.{Bool, true, false}
 use mathlib.Core.List.{List, [], _∷_, _++_, map}
-use Prim.Native.Nat.{ℕ, zero, suc, _+_, _*_, _-_, _/_, _≤_, _<_}
+use Prim.Native.Nat.{ℕ, _+_, _*_, _-_, _/_, _≤_, _<_}
 use native.Mathlib.Omega.{arith}
 use lib.Dec.{eqb}
 use lib.ListN.{length, replicate, length-append, length-map, length-replicate}
-use lib.IntN.{ℤ, pos}
+use lib.IntN.{pos}
 use Rattle.whole.specs.Tests.{if_then_else_}
 use Rattle.whole.specs.Bits.{bit, fewest}
 use Rattle.circuit.specs.declared.Counts.{Counts}
 use Rattle.circuit.specs.Literals.{slot, slotsOf}
-use Rattle.circuit.specs.Gates.{fixed}
-use Rattle.circuit.specs.Circuits.{new, _>>=_, gates, out, clausesFrom}
-use Rattle.circuit.specs.Counting.{_⊕_, nothing, aProduct, anExpansion, theFirst, theLast}
+use Rattle.circuit.specs.Circuits.{gates, out, clausesFrom}
+use Rattle.circuit.specs.Counting.{_⊕_, nothing, aProduct, anExpansion, theFirst}
 use Rattle.circuit.proofs.Wellformed.{Wf, count}
 use Rattle.circuit.proofs.Costs.{State, Cost, cost-ret, cost-new, cost-map, cost-bind, Grown, product-cost}
 use Rattle.circuit.proofs.Lengths.{slotsOf-append, cost-sound}
@@ -24,11 +23,11 @@ use Rattle.sheet.specs.declared.Fields.{Fields}
 use Rattle.sheet.specs.declared.Record.{Record}
 use Rattle.sheet.specs.Rows.{uses, isUnknown}
 use Rattle.sheet.specs.Values.{unknowns}
-use Rattle.sheet.specs.Acceptance.{meeting, bringing, planBy, recordAt, accepted, Sheet, accept}
+use Rattle.sheet.specs.Acceptance.{meeting, bringing, planBy, recordAt, Sheet}
 use Rattle.sheet.specs.Steps.{Cell, page, pages, stepsFrom, steps, cells, clausesButLast, lastClause, clauses, slotsFor, mapFor}
-use Rattle.sheet.proofs.Accepted.{Passes, Passed, IsAccepted, accepted-tells}
-use Rattle.sheet.proofs.Counted.{CellFor, CellsFor, cells-snoc, bitsAsked, row-cost}
-use Rattle.promise.specs.Promise.{Counted, CountsAreMade, ProductMakes}
+use Rattle.sheet.proofs.Accepted.{Passed, accepted-tells}
+use Rattle.sheet.proofs.Counted.{CellsFor, cells-snoc, bitsAsked, row-cost}
+use Rattle.promise.specs.Promise.{CountsAreMade, ProductMakes}
 
 -- a state that has made what is counted
 pub record Made (s : State) (k : Counts) : Type 0 where

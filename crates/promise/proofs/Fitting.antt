@@ -1,12 +1,12 @@
 -- No row's exact value, nor any expanded numerator, needs more bits than acceptance gave it. Assumes nothing.
-use mathlib.Core.Path.{_≡_, refl, sym, _∙_, ap, subst}
-use mathlib.Core.Bool.{Bool, true, false, not, _||_}
+use mathlib.Core.Path.{_≡_, sym, _∙_, ap, subst}
+use mathlib.Core.Bool.{false, _||_}
 use mathlib.Core.List.{List, [], _∷_, _++_, append-assoc, append-nil}
-use Prim.Native.Nat.{ℕ, zero, suc, _+_, _<_}
+use Prim.Native.Nat.{ℕ, _+_, _<_}
 use native.Mathlib.Omega.{arith}
 use borrow.Author.Tests.{leb-false}
-use lib.Dec.{eqb, leb}
-use lib.ListN.{length, getD, length-append, List·getD-append}
+use lib.Dec.{leb}
+use lib.ListN.{length, length-append, List·getD-append}
 use lib.IntN.{ℤ}
 use Rattle.circuit.specs.declared.Counts.{Counts}
 use Rattle.circuit.specs.Counting.{_⊕_, theFirst}

@@ -1,8 +1,8 @@
 -- Demand 3, for every accepted table and all values within their declared bits. Assumes nothing.
-use mathlib.Core.Path.{_≡_, refl, sym, _∙_, ap, subst}
-use mathlib.Core.Bool.{Bool, true, false, or-false, false≢true}
+use mathlib.Core.Path.{_≡_, sym, _∙_, ap, subst}
+use mathlib.Core.Bool.{true, false, or-false, false≢true}
 use mathlib.Core.List.{List, [], _∷_, _++_}
-use Prim.Native.Nat.{ℕ, _+_, _-_}
+use Prim.Native.Nat.{ℕ, _-_}
 use native.Mathlib.Omega.{arith}
 use lib.Dec.{eqb}
 use lib.ListN.{length, getD}
@@ -12,18 +12,18 @@ use Rattle.circuit.specs.Literals.{truth, falsity, Assignment, litTrue, clauseT
 use Rattle.circuit.specs.Circuits.{gates, run}
 use Rattle.circuit.specs.Counting.{_⊕_, theFirst}
 use Rattle.circuit.proofs.Wellformed.{count}
-use Rattle.circuit.proofs.Assignments.{Holds, holds-of, of-holds, frees, unique, run-length, run-frees, run-holds}
+use Rattle.circuit.proofs.Assignments.{holds-of, of-holds, frees, unique, run-length, run-frees, run-holds}
 use Rattle.sheet.specs.declared.Fields.{Fields}
 use Rattle.sheet.specs.declared.Record.{Record}
 use Rattle.sheet.specs.Values.{Value, boolean, fraction, truthOf, valueAt, rowValues, Within}
 use Rattle.sheet.specs.Acceptance.{recordAt, accepted, Sheet, accept}
-use Rattle.sheet.specs.Steps.{Cell, cellAt, lit, steps, cells, clausesButLast, lastClause, readRows, settings, unknownBits, extension}
+use Rattle.sheet.specs.Steps.{Cell, cellAt, lit, steps, cells, clausesButLast, lastClause, settings, unknownBits, extension}
 use Rattle.sheet.specs.Calls.{constraint}
-use Rattle.sheet.proofs.Accepted.{Passed, IsAccepted, accepted-tells}
+use Rattle.sheet.proofs.Accepted.{Passed, accepted-tells}
 use Rattle.sheet.proofs.Meant.{Shows, ShowAll, show-at}
 use Rattle.promise.specs.Promise.{Carries, Promise, DemandThree}
 use Rattle.promise.proofs.Counts.{Whole, whole-table, records-many}
-use Rattle.promise.proofs.Choices.{AllIn, Enough, within-all, all-within, all-bits-many, Ranged, Chosen}
+use Rattle.promise.proofs.Choices.{AllIn, within-all, all-within, all-bits-many, Ranged, Chosen}
 use Rattle.promise.proofs.Readings.{Reading, carried, model-carries}
 use Rattle.promise.proofs.Fitting.{all-wide}
 

@@ -1,18 +1,13 @@
 -- Every assignment that meets all clauses but the last carries exactly one choice of values within the declared bits, and every row
 -- of it reads as its exact value at them. Assumes nothing.
 use mathlib.Core.Path.{_≡_, refl, sym, _∙_, ap, ap₂, subst}
-use mathlib.Core.Bool.{Bool, true, false}
-use mathlib.Core.List.{List, [], _∷_, _++_, map, append-assoc, append-nil}
-use Prim.Native.Nat.{ℕ, zero, suc, _+_}
-use native.Mathlib.Omega.{arith}
-use lib.Dec.{eqb}
-use lib.ListN.{length, getD}
-use lib.IntN.{ℤ, pos}
-use Rattle.whole.specs.Tests.{if_then_else_}
-use Rattle.whole.specs.Bits.{toInt}
+use mathlib.Core.Bool.{Bool, true}
+use mathlib.Core.List.{List, [], _∷_, _++_, append-assoc}
+use Prim.Native.Nat.{ℕ}
+use lib.IntN.{ℤ}
 use Rattle.circuit.specs.declared.Counts.{Counts}
-use Rattle.circuit.specs.Literals.{truth, falsity, Assignment, litTrue, allTrue}
-use Rattle.circuit.specs.Circuits.{gates, out, clausesFrom}
+use Rattle.circuit.specs.Literals.{truth, Assignment, litTrue, allTrue}
+use Rattle.circuit.specs.Circuits.{gates, out}
 use Rattle.circuit.specs.Counting.{_⊕_, theFirst}
 use Rattle.circuit.proofs.Assignments.{Holds, holds-of, frees, frees-length}
 use Rattle.circuit.proofs.Meaning.{Sem, sem-ret, sem-new, sem-bind, sound}
@@ -22,8 +17,8 @@ use Rattle.sheet.specs.Values.{Value, boolean, fraction, rowVal, valuesFrom, ro
 use Rattle.sheet.specs.Acceptance.{Sheet}
 use Rattle.sheet.specs.Steps.{Cell, stepsFrom, steps, cells, clausesButLast, readAs, readEach, readRows, ofUnknowns, settings, unknownBits, bitsBy}
 use Rattle.sheet.specs.Rows.{uses}
-use Rattle.sheet.proofs.Accepted.{Passes, Passed}
-use Rattle.sheet.proofs.Counted.{CellFor, CellsFor}
+use Rattle.sheet.proofs.Accepted.{Passed}
+use Rattle.sheet.proofs.Counted.{CellsFor}
 use Rattle.sheet.proofs.Meant.{Shows, ShowAll, show-snoc, row-sem}
 use Rattle.promise.proofs.Counts.{Whole}
 use Rattle.promise.proofs.Choices.{first, after, AllIn, Enough, Ranged, Chosen, readAll, read-all, values-new, chosen-found}

@@ -1,9 +1,9 @@
 -- Demand 3, the two sentences for the assessor, and the counts: what is promised of an accepted table. Assumes nothing.
 use mathlib.Core.Path.{_≡_}
-use mathlib.Core.Bool.{Bool, true, false}
+use mathlib.Core.Bool.{true, false}
 use mathlib.Core.List.{List, [], _∷_, _++_}
 use Prim.Native.Nat.{ℕ, _+_, _*_, _-_, _/_, _≤_, _<_}
-use lib.ListN.{length, getD}
+use lib.ListN.{length}
 use lib.IntN.{ℤ}
 use Rattle.whole.specs.Bits.{Fits}
 use Rattle.circuit.specs.Literals.{Lit, Assignment, clauseTrue, allTrue}

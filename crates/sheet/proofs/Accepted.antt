@@ -5,8 +5,8 @@ use mathlib.Core.Bool.{Bool, true, false, not, false≢true}
 use mathlib.Core.List.{List, [], _∷_, _++_}
 use Prim.Native.Nat.{ℕ, zero, suc, _+_, _-_, _/_, _%_, _≤_, _<_}
 use native.Mathlib.Omega.{arith}
-use lib.Dec.{eqb, ltb, leb}
-use lib.ListN.{length, getD, take, drop, length-append}
+use lib.Dec.{eqb, ltb}
+use lib.ListN.{length, take, drop, length-append}
 use borrow.Author.Tests.{ltb-false, eqb-true, not-false}
 use Rattle.whole.specs.Tests.{if_then_else_}
 use Rattle.circuit.specs.declared.Counts.{Counts}
@@ -19,7 +19,9 @@ use Rattle.sheet.specs.declared.Record.{Record}
 use Rattle.sheet.specs.declared.Verdict.{Verdict}
 use Rattle.sheet.specs.declared.Verdict.the-variants.{Pass, Stop}
 use Rattle.sheet.specs.Rows.{readRow, andRows, rowsOf, uses}
-use Rattle.sheet.specs.Acceptance.{outOfRange, sortsIn, someNotEarlier, someOfWrongSort, Plan, meeting, larger, planBy, stop_if_else_, recordBy, judgeBy, recordAt, judge, Outcome, refused, accepted, Sheet, ending, onward, walk, accept}
+use Rattle.sheet.specs.Acceptance.{outOfRange, sortsIn, someNotEarlier, someOfWrongSort, Plan, meeting, larger, planBy, stop_if_else_, recordBy, recordAt, judge, Outcome, refused, accepted, Sheet, onward, walk, accept}
+-- named so that the examples are checked before every law: a wrong definition is refused first by what an example computes
+use Rattle.sheet.specs.Examples
 
 -- what is said of the records of the rows x and y, by their numbers
 abbrev pub sortAt : List Record → ℕ → ℕ

@@ -1,16 +1,16 @@
 -- Laws of outcomes: what it tells that a call's refusals all passed by. Assumes nothing.
-use mathlib.Core.Path.{_≡_, refl, sym, _∙_, ap}
+use mathlib.Core.Path.{_≡_, refl, _∙_, ap}
 use mathlib.Core.Bool.{Bool, true, false, not, _&&_}
 use mathlib.Core.List.{List, [], _∷_, map}
-use Prim.Native.Nat.{ℕ, zero, suc, _+_, _≤_, _<_}
+use Prim.Native.Nat.{ℕ, suc, _+_}
 use native.Mathlib.Omega.{arith}
-use borrow.Author.Tests.{lt-ltb, le-ltb, ltb-false, eqb-true, not-false}
-use lib.Dec.{ltb, eqb}
+use borrow.Author.Tests.{lt-ltb, le-ltb}
+use lib.Dec.{ltb}
 use lib.ListN.{length}
 use Rattle.circuit.specs.Literals.{Assignment, Clause, clauseTrue, allTrue}
 use Rattle.sheet.specs.Values.{every}
 use Rattle.sheet.specs.Acceptance.{Outcome, refused, accepted}
-use Rattle.sheet.specs.Calls.{_>>=_, _>>_, refuse_at_if_, refuse_unless_fit_, falseAt, refuse_counting_unless_}
+use Rattle.sheet.specs.Calls.{_>>=_, _>>_, refuse_at_if_, falseAt}
 
 module _ {A : Type 0} where
   refused-not : {n p : ℕ} {a : A} {X : Type 0} → refused n p ≡ accepted a → X

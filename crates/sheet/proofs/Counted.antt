@@ -1,21 +1,21 @@
 -- Row by row: a row's literals have the width of its record, and the variables, clauses and slots that its steps make are those
 -- that acceptance counts. Assumes nothing.
-use mathlib.Core.Path.{_≡_, refl, sym, _∙_, ap₂, subst, subst₂}
+use mathlib.Core.Path.{_≡_, refl, sym, ap₂, subst₂}
 use mathlib.Core.Bool.{Bool, true, false}
 use mathlib.Core.List.{List, [], _∷_, _++_}
-use Prim.Native.Nat.{ℕ, zero, suc, _+_, _*_, _/_, _≤_, _<_, max}
+use Prim.Native.Nat.{ℕ, zero, suc, _*_, _/_, _≤_, _<_}
 use native.Mathlib.Omega.{arith}
 use native.Mathlib.Numerals.{add-one}
-use lib.Dec.{eqb, ltb}
-use lib.ListN.{length, getD}
+use lib.Dec.{eqb}
+use lib.ListN.{getD}
 use Rattle.whole.specs.Divisors.{lcm}
 use Rattle.circuit.specs.declared.Counts.{Counts}
 use Rattle.circuit.specs.Literals.{Lit, neg, falsity, known}
 use Rattle.circuit.specs.Gates.{free, and, xor}
 use Rattle.circuit.specs.Circuits.{Circuit, ret, make, _>>=_}
 use Rattle.circuit.specs.Numbers.{constant, unknown, sum, difference, product, expansion, greater, equal, choice}
-use Rattle.circuit.specs.Counting.{_⊕_, times, nothing, addingBit, aMux, orderingBit, matchingBit, expandedWidth}
-use Rattle.circuit.proofs.Wellformed.{var, Names}
+use Rattle.circuit.specs.Counting.{_⊕_}
+use Rattle.circuit.proofs.Wellformed.{Names}
 use Rattle.circuit.proofs.Bounds.{bound, var-neg, Lits, lits-up, lits-snoc, constant-lits}
 use Rattle.circuit.proofs.Costs.{State, Cost, cost-ret, cost-new, cost-map, cost-bind, Grown, Spent, grown-then, unknown-cost, sum-cost, difference-cost, product-cost, choice-cost, greater-cost, equal-cost, expansion-cost, expandedWidth-pos}
 use Rattle.sheet.specs.declared.Kind.{Kind}
@@ -24,7 +24,7 @@ use Rattle.sheet.specs.declared.Fields.{Fields}
 use Rattle.sheet.specs.declared.Record.{Record}
 use Rattle.sheet.specs.Rows.{constantIn, Uses, aFlag, aBoolean, aNatural, anInteger, aConstant, theRows, uses}
 use Rattle.sheet.specs.Acceptance.{outside, outOfRange, booleanPlan, numberPlan, widthOver, bringing, recordBy, recordAt}
-use Rattle.sheet.specs.Steps.{Cell, cell, booleanCell, numberCell, negated, withSign, cellAt, bits, lit, below, least, brought, stepsBy, rowSteps}
+use Rattle.sheet.specs.Steps.{Cell, booleanCell, numberCell, negated, withSign, cellAt, bits, lit, below, least, brought, stepsBy, rowSteps}
 use Rattle.sheet.proofs.Accepted.{meetingAt, largerAt, planAt, Passes}
 use Rattle.sheet.proofs.Tested.{neither, at-least}
 

@@ -12,6 +12,8 @@ use Rattle.whole.proofs.Divisors.{whole-factor-left, whole-factor-right, lcm-po
 use Rattle.whole.proofs.Scaling.{scale-twice, scale-sum, scale-difference, scale-lt, scale-eq}
 use Rattle.sheet.specs.declared.Kind.the-variants.{Sum, Difference, Product, Choice, Greater, Equal}
 use Rattle.sheet.specs.Values.{Value, fraction, truthOf, numerator, denominator, valueAt, is, shared, over, valueBy}
+-- named so that the examples are checked before every law: a wrong definition is refused first by what an example computes
+use Rattle.sheet.specs.Examples
 
 -- v is the fraction n / d
 pub record IsFraction (v : Value) (n : ℤ) (d : ℕ) : Type 0 where

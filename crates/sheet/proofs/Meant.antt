@@ -1,21 +1,20 @@
 -- Row by row: wherever a row's gates hold and its free bits are those of the value chosen, its literals read as its exact value.
 -- Assumes nothing.
 use mathlib.Core.Path.{_≡_, refl, sym, _∙_, ap, ap₂, subst, subst₂}
-use mathlib.Core.Bool.{Bool, true, false, not, _&&_, _||_, Bool·beq, false≢true}
+use mathlib.Core.Bool.{Bool, true, false, not, _&&_, _||_, Bool·beq}
 use mathlib.Core.List.{List, [], _∷_, _++_, map}
-use Prim.Native.Nat.{ℕ, zero, suc, _+_, _*_, _-_, _/_, _^_, _≤_, _<_}
+use Prim.Native.Nat.{ℕ, zero, suc, _*_, _/_, _^_, _<_}
 use native.Mathlib.Omega.{arith}
-use lib.Dec.{T, eqb, eqb→eq}
-use lib.ListN.{length, getD}
-use lib.IntN.{ℤ, pos, negsuc, _*ℤ_}
-use Rattle.whole.specs.Tests.{if_then_else_, eqZ}
+use lib.Dec.{eqb}
+use lib.ListN.{getD}
+use lib.IntN.{ℤ, pos, _*ℤ_}
 use Rattle.whole.specs.Bits.{Fits, bitsOf}
 use Rattle.whole.specs.Divisors.{lcm}
 use Rattle.whole.proofs.Bits.{below-fits}
 use Rattle.circuit.specs.declared.Counts.{Counts}
 use Rattle.circuit.specs.Literals.{Lit, neg, truth, falsity, known, Assignment, litTrue}
 use Rattle.circuit.specs.Gates.{xorOf}
-use Rattle.circuit.specs.Circuits.{Circuit, _>>=_}
+use Rattle.circuit.specs.Circuits.{Circuit}
 use Rattle.circuit.specs.Numbers.{sum, difference, choice, greater, equal}
 use Rattle.circuit.proofs.Gates.{litTrue-neg}
 use Rattle.circuit.proofs.Meaning.{Sem, sem-ret, sem-new, sem-bind}

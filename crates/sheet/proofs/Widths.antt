@@ -1,13 +1,12 @@
 -- Every row's value fits the width that its record gives, and so does every numerator brought to a common denominator. Assumes nothing.
 use mathlib.Core.Path.{_≡_, refl}
-use mathlib.Core.Bool.{Bool, true, false, not}
+use mathlib.Core.Bool.{Bool, true, false}
 use mathlib.Core.List.{List, [], _∷_, _++_}
 use Prim.Native.Nat.{ℕ, zero, suc, _+_, _<_}
 use native.Mathlib.Omega.{arith}
 use native.Mathlib.Numerals.{add-one}
 use native.Mathlib.Nat.{mul-pos}
 use lib.Dec.{T, eqb, eqb→eq}
-use lib.ListN.{getD}
 use lib.IntN.{ℤ, pos, _*ℤ_, one, *ℤ-one}
 use Rattle.whole.specs.Tests.{if_then_else_}
 use Rattle.whole.specs.Bits.{Fits, fewest}

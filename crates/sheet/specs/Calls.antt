@@ -1,14 +1,14 @@
 -- "Refusal numbers" 11 to 19 and 22: each call's refusals in their order, and what then remains in each lent buffer. Assumes nothing.
 use mathlib.Core.Bool.{Bool, true, false, not}
 use mathlib.Core.List.{List, [], _∷_, _++_, map}
-use Prim.Native.Nat.{ℕ, zero, suc, _+_, _*_, _-_}
+use Prim.Native.Nat.{ℕ, _+_, _*_, _-_}
 use lib.Dec.{eqb, ltb, leb}
-use lib.ListN.{length, getD, take, drop}
+use lib.ListN.{length, take, drop}
 use lib.IntN.{ℤ}
 use Rattle.whole.specs.Bits.{bit}
 use Rattle.circuit.specs.Literals.{Assignment, clauseTrue}
 use Rattle.sheet.specs.declared.Record.{Record}
-use Rattle.sheet.specs.Values.{Value, numerator, truthOf, valueAt, rowValues, unknowns, eachInBits}
+use Rattle.sheet.specs.Values.{numerator, truthOf, valueAt, rowValues, unknowns, eachInBits}
 use Rattle.sheet.specs.Acceptance.{Outcome, refused, accepted, recordAt, Sheet, accept}
 use Rattle.sheet.specs.Steps.{clauses, settings, extension}
 

@@ -11,9 +11,10 @@ use Rattle.circuit.specs.Literals.{plus}
 use Rattle.circuit.specs.Circuits.{gates, clausesFrom}
 use Rattle.circuit.specs.Numbers.{product}
 use Rattle.circuit.specs.Counting.{aProduct, expandedWidth, anExpansion}
+use Rattle.circuit.specs.Examples.{Example, _gives_}
 use Rattle.sheet.specs.declared.Record.{Record}
 use Rattle.sheet.specs.Rows.{kindOf, readRow, rowsOf}
-use Rattle.sheet.specs.Values.{Value, numerator, denominator, rowVal, rowValues}
+use Rattle.sheet.specs.Values.{numerator, denominator, rowVal, rowValues}
 use Rattle.sheet.specs.Acceptance.{Outcome, refused, accepted, Sheet, judge, walk, accept}
 use Rattle.sheet.specs.Steps.{rowSteps, steps, cells, clausesButLast, lastClause, clauses, slotsFor, readRows, extension}
 use Rattle.sheet.specs.Calls.{constraint}
@@ -63,14 +64,6 @@ truths table vs = shown (λ sheet. map (λ v. pos (bit (constraint sheet (v ∷ 
 -- the rows' numerators as the steps have them: read from the assignment that extends the values
 abbrev readings : List ℕ → List ℤ → List ℤ
 readings table vs = shown (λ sheet. map numerator (readRows sheet (extension (sheet .rows) vs))) (accept table)
-
-pub record Example : Type 0 where
-  pub shows : List ℤ
-  pub wanted : List ℤ
-
-infix 3 _gives_
-abbrev _gives_ : List ℤ → List ℤ → Example
-a gives b = record { shows = a; wanted = b }
 
 abbrev aboveTwo : List ℕ
 aboveTwo = row 0x02 2 0 0 1 ++ number 2 1 ++ row 0x30 0 0 1 0

@@ -6,7 +6,7 @@ use lib.ListN.{take, drop}
 use Rattle.circuit.specs.Literals.{clauseTrue}
 use Rattle.sheet.specs.Acceptance.{Outcome, refused, accepted, Sheet, accept}
 use Rattle.sheet.specs.Steps.{clauses, readRows}
-use Rattle.sheet.specs.Calls.{_>>=_, _>>_, refuse_at_if_, refuse_unless_fit_, refuse_counting_unless_, assigned}
+use Rattle.sheet.specs.Calls.{_>>=_, _>>_, refuse_unless_fit_, refuse_counting_unless_, assigned}
 use Rattle.sheet.specs.Texts.{ascii, Lines, readLines, tableIn, dimacs, settingLines, refusedLine, Claim, noneClaimed, model, claimIn}
 
 -- both programs read at most 65,536 bytes and lend 16,384 slots

@@ -1,15 +1,15 @@
 -- "Numbering and clauses": rows to clauses, the literal map and the slots; how an assignment reads, and the assignment that
 -- extends chosen values. Assumes nothing.
-use mathlib.Core.Bool.{Bool, true, false}
+use mathlib.Core.Bool.{Bool}
 use mathlib.Core.List.{List, [], _∷_, _++_, map}
-use Prim.Native.Nat.{ℕ, zero, suc, _+_, _*_, _-_, _/_}
+use Prim.Native.Nat.{ℕ, _*_, _-_, _/_}
 use lib.Dec.{eqb}
 use lib.ListN.{length, getD, drop, replicate}
 use lib.IntN.{ℤ, pos}
 use Rattle.whole.specs.Tests.{if_then_else_, eqZ}
 use Rattle.whole.specs.Bits.{bit, toInt, bitsOf}
 use Rattle.whole.specs.Divisors.{lcm}
-use Rattle.circuit.specs.Literals.{Lit, neg, truth, falsity, known, Clause, slot, slotsOf, Assignment, litTrue}
+use Rattle.circuit.specs.Literals.{Lit, neg, falsity, known, Clause, slot, slotsOf, Assignment, litTrue}
 use Rattle.circuit.specs.Gates.{fixed, free, and, xor}
 use Rattle.circuit.specs.Circuits.{Circuit, ret, make, _>>=_, gates, out, clausesFrom, run}
 use Rattle.circuit.specs.Numbers.{constant, unknown, sum, difference, product, expansion, greater, equal, choice}
@@ -19,7 +19,7 @@ use Rattle.sheet.specs.declared.Fields.{Fields}
 use Rattle.sheet.specs.declared.Record.{Record}
 use Rattle.sheet.specs.Rows.{constantIn, Uses, aFlag, aBoolean, aNatural, anInteger, aConstant, theRows, uses, isUnknown}
 use Rattle.sheet.specs.Values.{Value, boolean, fraction, numerator}
-use Rattle.sheet.specs.Acceptance.{Sheet, missing}
+use Rattle.sheet.specs.Acceptance.{Sheet}
 
 -- a row's literals, lowest first, and its denominator; a Boolean has one literal
 pub record Cell : Type 0 where

@@ -14,8 +14,8 @@ use Rattle.sheet.specs.declared.Fields.{Fields}
 use Rattle.sheet.specs.Rows.{uses, isUnknown}
 use Rattle.sheet.specs.Values.{Value, numerator, denominator}
 use Rattle.sheet.specs.Acceptance.{Outcome, refused, accepted, Sheet}
-use Rattle.sheet.specs.Steps.{slotsFor, readRows}
-use Rattle.sheet.specs.Calls.{_>>_, refuse_at_if_, refuse_unless_fit_}
+use Rattle.sheet.specs.Steps.{slotsFor}
+use Rattle.sheet.specs.Calls.{_>>_, refuse_unless_fit_}
 
 -- the bytes of a quoted text; `\n` is a line feed, 10
 abbrev pub ascii : String → List ℕ
