@@ -3,6 +3,7 @@
 use mathlib.Core.Path.{_≡_, refl}
 use mathlib.Core.List.{List, [], _∷_, _++_, map}
 use Prim.Native.Nat.{ℕ, _/_, _%_}
+use Prim.Native.String.{String}
 use lib.ListN.{length, replicate}
 use lib.IntN.{ℤ, pos, negsuc}
 use Rattle.whole.specs.Bits.{bit}
@@ -18,8 +19,8 @@ use Rattle.sheet.specs.Values.{numerator, denominator, rowVal, rowValues
 use Rattle.sheet.specs.Acceptance.{Outcome, refused, accepted, Sheet, judge, walk, accept}
 use Rattle.sheet.specs.Steps.{rowSteps, steps, cells, clausesButLast, lastClause, clauses, slotsFor, readRows, extension}
 use Rattle.sheet.specs.Calls.{constraint}
-use Rattle.sheet.specs.Texts.{ascii, beginsLine, bytesIn, tableIn, linesFrom, readLines, digitsIn, decimal, signed, slotText, slotTexts, dimacs, refusedLine}
-use Rattle.sheet.specs.Programs.{clauseProgram}
+use Rattle.sheet.specs.Texts.{ascii, beginsLine, bytesIn, tableIn, linesFrom, readLines, digitsIn, decimal, signed, slotText, slotTexts, dimacs, settingLines, refusedLine, variableText, variableTexts, modelLine, signAt, signsIn, starts, claimIn}
+use Rattle.sheet.specs.Programs.{clauseProgram, settingsProgram}
 
 -- a row's bytes, and those of a number constant by its 32 bits
 abbrev row : (kind p x y z : ℕ) → List ℕ
@@ -64,6 +65,10 @@ truths table vs = shown (λ sheet. map (λ v. pos (bit (constraint sheet (v ∷ 
 -- the rows' numerators as the steps have them: read from the assignment that extends the values
 abbrev readings : List ℕ → List ℤ → List ℤ
 readings table vs = shown (λ sheet. map numerator (readRows sheet (extension (sheet .rows) vs))) (accept table)
+
+-- what the settings program writes, of the lines of a 2-bit natural above 2 and a text behind them
+abbrev settled : String → List ℤ
+settled text = map pos (settingsProgram (ascii "0202000000000001\n0400000000020001\n3000000000010000\n" ++ ascii text))
 
 abbrev aboveTwo : List ℕ
 aboveTwo = row 0x02 2 0 0 1 ++ number 2 1 ++ row 0x30 0 0 1 0
@@ -117,6 +122,17 @@ examples =
     -- the whole example
     ∷ (map pos (clauseProgram (ascii "0100000000000000\n1000000000000000\n1100000000010000\n"))
     gives map pos (ascii "p cnf 3 5\n1 0\n-3 2 0\n-3 -2 0\n3 -2 2 0\n3 0\n"))
+    -- the settings program on a 2-bit natural above 2: a model, none claimed, a false clause; and what is refused on the way there
+    ∷ (settled "\ns SATISFIABLE\nv 1 2 3 4 5 -6 7 -8 9 0\n" gives map pos (ascii "0 3 1\n"))
+    ∷ (settled "\ns UNSATISFIABLE\n" gives map pos (ascii "none claimed\n"))
+    ∷ (settled "\ns SATISFIABLE\nv 1 2 -3 4 5 -6 7 -8 9 0\n" gives map pos (ascii "refused 19 13\n"))
+    ∷ (settled "\ns SATISFIABLE\nv 1 2 3 0\n" gives map pos (ascii "refused 21 1\n"))
+    ∷ (settled "\ns SATISFIABLE\nv 1 2 3 4 5 -6 7 -8 9 0\n\n" gives map pos (ascii "refused 21 2\n"))
+    ∷ (settled "" gives map pos (ascii "refused 21 0\n"))
+    ∷ (settled "s SATISFIABLE\n" gives map pos (ascii "refused 20 3\n"))
+    ∷ (map pos (settingsProgram []) gives map pos (ascii "refused 1 0\n"))
+    ∷ (map pos (clauseProgram (ascii "0100000000000000\n010000000000000A\n")) gives map pos (ascii "refused 20 1\n"))
+    ∷ (map pos (clauseProgram (ascii "0100000000000000")) gives map pos (ascii "refused 20 0\n"))
     -- a 2-bit natural above 2: its sizes, accepted and made; of 0, 1, 2 and 3 only 3 is a solution
     ∷ (sizes aboveTwo gives pos 9 ∷ pos 26 ∷ pos 100 ∷ [])
     ∷ (made aboveTwo gives pos 9 ∷ pos 26 ∷ pos 100 ∷ [])
@@ -144,5 +160,5 @@ examples =
     ∷ []
 
 pub examples-hold : map (λ (e : Example). e .shows) examples ≡ map (λ (e : Example). e .wanted) examples
-unfolding gcd lcm aProduct expandedWidth anExpansion kindOf readRow rowsOf rowVal rowValues judge walk accept rowSteps steps cells clausesButLast lastClause clauses slotsFor readRows extension constraint beginsLine bytesIn tableIn linesFrom readLines digitsIn decimal signed slotText slotTexts dimacs refusedLine clauseProgram
+unfolding gcd lcm aProduct expandedWidth anExpansion kindOf readRow rowsOf rowVal rowValues judge walk accept rowSteps steps cells clausesButLast lastClause clauses slotsFor readRows extension constraint beginsLine bytesIn tableIn linesFrom readLines digitsIn decimal signed slotText slotTexts dimacs settingLines refusedLine variableText variableTexts modelLine signAt signsIn starts claimIn clauseProgram settingsProgram
 examples-hold = refl
