@@ -1,6 +1,6 @@
 -- The whole table: its literals have the widths of its records, and its variables, clauses and slots are what acceptance counts.
 -- Assumes nothing.
-use mathlib.Core.Path.{_≡_, refl, sym, _∙_, ap, subst}
+use mathlib.Core.Path.{_≡_, refl, _∙_, ap, subst}
 use mathlib.Core.Bool.{Bool, true, false}
 use mathlib.Core.List.{List, [], _∷_, _++_, map}
 use Prim.Native.Nat.{ℕ, _+_, _*_, _-_, _/_, _≤_, _<_}
@@ -25,7 +25,7 @@ use Rattle.sheet.specs.Rows.{uses, isUnknown}
 use Rattle.sheet.specs.Values.{unknowns}
 use Rattle.sheet.specs.Acceptance.{meeting, bringing, planBy, recordAt, Sheet}
 use Rattle.sheet.specs.Steps.{Cell, page, pages, stepsFrom, steps, cells, clausesButLast, lastClause, clauses, slotsFor, mapFor}
-use Rattle.sheet.proofs.Accepted.{Passed, accepted-tells}
+use Rattle.sheet.proofs.Accepted.{Passed, passed-many, accepted-tells}
 use Rattle.sheet.proofs.Counted.{CellsFor, cells-snoc, bitsAsked, row-cost}
 use Rattle.promise.specs.Promise.{CountsAreMade, ProductMakes}
 
@@ -131,11 +131,7 @@ unknowns-counted (f ∷ rows) rs so records total p =
     let e : p .1 .unknowns ≡ bit (isUnknown (uses (f .kind))) = ap (λ (k : Counts). k .unknowns) (p .2 .isCounts) ∙ plan-asks (f .kind) (f .p) (f .x) (f .y) (f .z) (recordAt rs (f .x)) (recordAt rs (f .y)) (recordAt rs (f .z)) in
     omega (arith, one-more (isUnknown (uses (f .kind))) f (unknowns rows))
 
--- ---- the records, and the map
-
-pub records-many : (rows : List Fields) (rs : List Record) (so : Counts) (records : List Record) (total : Counts) → Passed rs so rows records total → length records ≡ length rs + length rows
-records-many [] rs so records total p = rw (sym (p .0)) (omega arith)
-records-many (f ∷ rows) rs so records total p = records-many rows (rs ++ p .0 ∷ []) (so ⊕ p .1) records total (p .3) ∙ rw (length-append rs (p .0 ∷ [])) (omega arith)
+-- ---- the map
 
 -- no row is wider than its places in the map
 plan-narrow : (k : Kind) (p x y z : ℕ) (a b c : Record) → planBy k p x y z a b c .widest ≤ 48 → planBy k p x y z a b c .width ≤ 48
@@ -185,7 +181,7 @@ counted table sheet e =
     let a = accepted-tells table sheet e in
     let w = whole-table sheet (a .total) (a .passed) in
     let but = clausesFrom 0 (gates 0 (steps (sheet .rows))) in
-    let many = records-many (sheet .rows) [] theFirst (sheet .records) (a .total) (a .passed) in
+    let many = passed-many (sheet .rows) [] theFirst (sheet .records) (a .total) (a .passed) in
     let k = ap (λ (c : Counts). c .unknowns) (a .counted) in
     let v = ap (λ (c : Counts). c .variables) (a .counted) in
     let c = ap (λ (c : Counts). c .clauses) (a .counted) in

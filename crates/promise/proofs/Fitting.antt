@@ -1,12 +1,11 @@
 -- No row's exact value, nor any expanded numerator, needs more bits than acceptance gave it. Assumes nothing.
 use mathlib.Core.Path.{_≡_, sym, _∙_, ap, subst}
 use mathlib.Core.Bool.{false, _||_}
-use mathlib.Core.List.{List, [], _∷_, _++_, append-assoc, append-nil}
-use Prim.Native.Nat.{ℕ, _+_, _<_}
-use native.Mathlib.Omega.{arith}
+use mathlib.Core.List.{List, [], _∷_, _++_}
+use Prim.Native.Nat.{ℕ, _<_}
 use borrow.Author.Tests.{leb-false}
 use lib.Dec.{leb}
-use lib.ListN.{length, length-append, List·getD-append}
+use lib.ListN.{length, List·getD-append}
 use lib.IntN.{ℤ}
 use Rattle.circuit.specs.declared.Counts.{Counts}
 use Rattle.circuit.specs.Counting.{_⊕_, theFirst}
@@ -17,7 +16,7 @@ use Rattle.sheet.specs.declared.Record.{Record}
 use Rattle.sheet.specs.Rows.{uses}
 use Rattle.sheet.specs.Values.{Value, boolean, fraction, valueAt, rowVal, valuesFrom, rowValues}
 use Rattle.sheet.specs.Acceptance.{sortsIn, someNotEarlier, missing, recordAt, Sheet}
-use Rattle.sheet.proofs.Accepted.{sortAt, Sorted, Passes, Passed}
+use Rattle.sheet.proofs.Accepted.{sortAt, Sorted, Passed, passed-behind}
 use Rattle.sheet.proofs.Tested.{neither, right-sort, two-sorts}
 use Rattle.sheet.proofs.Widths.{Holds, AllHold, allHold-snoc, hold-at, pair-fits, row-fits}
 use Rattle.promise.specs.Promise.{broughtBy, FitsRow, FitBoth, Wide}
@@ -30,32 +29,6 @@ table-fits (f ∷ rows) rs vs h so records total p values a =
     let v = rowVal vs f (first values) in
     table-fits rows (rs ++ p .0 ∷ []) (vs ++ v ∷ []) (allHold-snoc rs vs (p .0) v h (row-fits rs vs h (so .slots) f (p .0) (p .1) (p .2) (first values) (a .0)))
     (so ⊕ p .1) records total (p .3) (after f values) (a .1)
-
--- the records before a row stand at the front of all
-passed-front : (rows : List Fields) (rs : List Record) (so : Counts) (records : List Record) (total : Counts) → Passed rs so rows records total → (rest : List Record) × (records ≡ rs ++ rest)
-passed-front [] rs so records total p = ([], sym (p .0) ∙ sym (append-nil rs))
-passed-front (f ∷ rows) rs so records total p =
-    let (rest, e) = passed-front rows (rs ++ p .0 ∷ []) (so ⊕ p .1) records total (p .3) in
-    (p .0 ∷ rest, e ∙ append-assoc rs (p .0 ∷ []) rest)
-
--- a row passes after the records of the rows before it
-record PassedAt (records : List Record) (i : ℕ) (f : Fields) : Type 0 where
-  earlier : List Record
-  at : ℕ
-  own : Record
-  counts : Counts
-  passes : Passes earlier at f own counts
-  rest : List Record
-  front : records ≡ earlier ++ rest
-  place : length earlier ≡ i
-
-passed-at : (before : List Fields) (f : Fields) (behind : List Fields) (rs : List Record) (so : Counts) (records : List Record) (total : Counts)
-    → Passed rs so (before ++ f ∷ behind) records total → PassedAt records (length rs + length before) f
-passed-at [] f behind rs so records total p =
-    let (rest, e) = passed-front (f ∷ behind) rs so records total p in
-    record { earlier = rs; at = so .slots; own = p .0; counts = p .1; passes = p .2; rest = rest; front = e; place = omega arith }
-passed-at (g ∷ before) f behind rs so records total p =
-    subst (λ (i : ℕ). PassedAt records i f) (omega (arith, length-append rs (p .0 ∷ []))) (passed-at before f behind (rs ++ p .0 ∷ []) (so ⊕ p .1) records total (p .3))
 
 -- the sort of an earlier row is that of the row among all
 sort-at : (earlier rest : List Record) (x s : ℕ) → x < length earlier → sortAt earlier x ≡ s → sortAt (earlier ++ rest) x ≡ s
@@ -98,9 +71,9 @@ unfolding rowValues
 all-wide sheet total p values a before f behind e =
     let vs = rowValues (sheet .rows) values in
     let h : AllHold (sheet .records) vs = table-fits (sheet .rows) [] [] tt theFirst (sheet .records) total p values a in
-    let q = passed-at before f behind [] theFirst (sheet .records) total (subst (λ (rows : List Fields). Passed [] theFirst rows (sheet .records) total) e p) in
+    let q = passed-behind before f behind (sheet .records) total (subst (λ (rows : List Fields). Passed [] theFirst rows (sheet .records) total) e p) in
     record {
       own = fits-row (recordAt (sheet .records) (length before)) (valueAt vs (length before)) (hold-at (sheet .records) vs h (length before));
       expanded = subst (λ (records : List Record). FitBoth records vs (broughtBy (f .kind) (f .x) (f .y) (f .z))) (sym (q .front))
-          (brought-fits (q .earlier) (q .rest) vs (subst (λ (records : List Record). AllHold records vs) (q .front) h) (f .kind) (f .x) (f .y) (f .z) (q .passes .named) (q .passes .sorted));
+          (brought-fits (q .earlier) (q .own ∷ q .rest) vs (subst (λ (records : List Record). AllHold records vs) (q .front) h) (f .kind) (f .x) (f .y) (f .z) (q .passes .named) (q .passes .sorted));
     }

@@ -3,5 +3,6 @@ pub mod Counts
 pub mod Choices
 pub mod Readings
 pub mod Fitting
+pub mod Parts
 pub mod Promise
 pub mod Assessor

@@ -19,10 +19,10 @@ use Rattle.sheet.specs.Values.{Value, boolean, fraction, truthOf, valueAt, rowV
 use Rattle.sheet.specs.Acceptance.{recordAt, accepted, Sheet, accept}
 use Rattle.sheet.specs.Steps.{Cell, cellAt, lit, steps, cells, clausesButLast, lastClause, settings, unknownBits, extension}
 use Rattle.sheet.specs.Calls.{constraint}
-use Rattle.sheet.proofs.Accepted.{Passed, accepted-tells}
+use Rattle.sheet.proofs.Accepted.{Passed, passed-many, accepted-tells}
 use Rattle.sheet.proofs.Meant.{Shows, ShowAll, show-at}
 use Rattle.promise.specs.Promise.{Carries, Promise, DemandThree}
-use Rattle.promise.proofs.Counts.{Whole, whole-table, records-many}
+use Rattle.promise.proofs.Counts.{Whole, whole-table}
 use Rattle.promise.proofs.Choices.{AllIn, within-all, all-within, all-bits-many, Ranged, Chosen}
 use Rattle.promise.proofs.Readings.{Reading, carried, model-carries}
 use Rattle.promise.proofs.Fitting.{all-wide}
@@ -49,7 +49,7 @@ pub known : (table : List ℕ) (sheet : Sheet) → accept table ≡ accepted she
 known table sheet e =
     let is = accepted-tells table sheet e in
     let whole = whole-table sheet (is .total) (is .passed) in
-    let many = records-many (sheet .rows) [] theFirst (sheet .records) (is .total) (is .passed) in
+    let many = passed-many (sheet .rows) [] theFirst (sheet .records) (is .total) (is .passed) in
     let v = ap (λ (k : Counts). k .variables) (is .counted) in
     record {
       total = is .total;

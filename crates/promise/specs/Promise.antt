@@ -6,7 +6,7 @@ use Prim.Native.Nat.{ℕ, _+_, _*_, _-_, _/_, _≤_, _<_}
 use lib.ListN.{length}
 use lib.IntN.{ℤ}
 use Rattle.whole.specs.Bits.{Fits}
-use Rattle.circuit.specs.Literals.{Lit, Assignment, clauseTrue, allTrue}
+use Rattle.circuit.specs.Literals.{Lit, slotsOf, Assignment, clauseTrue, allTrue}
 use Rattle.circuit.specs.Circuits.{gates, clausesFrom}
 use Rattle.circuit.specs.Numbers.{product}
 use Rattle.circuit.proofs.Bounds.{Lits}
@@ -16,8 +16,8 @@ use Rattle.sheet.specs.declared.Fields.{Fields}
 use Rattle.sheet.specs.declared.Record.{Record}
 use Rattle.sheet.specs.Values.{Value, boolean, fraction, valueAt, shared, over, rowValues, unknowns, Within}
 use Rattle.sheet.specs.Acceptance.{meeting, widthOver, recordAt, accepted, Sheet, accept}
-use Rattle.sheet.specs.Steps.{steps, clausesButLast, lastClause, clauses, slotsFor, mapFor, readRows, settings, extension}
-use Rattle.sheet.specs.Calls.{unknownCount, writing, decoding, modelOf, settingsOf, constraint}
+use Rattle.sheet.specs.Steps.{rowSteps, steps, cells, clausesButLast, lastClause, clauses, slotsFor, mapFor, readRows, settings, extension}
+use Rattle.sheet.specs.Calls.{unknownCount, writing, decoding, modelOf, settingsOf, constraint, part}
 
 -- an assignment carries values: it meets every clause but the last, and the unknowns' literals read as these values
 pub record Carries (sheet : Sheet) (values : List ℤ) (s : Assignment) : Type 0 where
@@ -108,6 +108,18 @@ pub record Counted (sheet : Sheet) : Type 0 where
   pub slot : sheet .counts .slots ≡ length (slotsFor (sheet .rows))
   pub places : length (mapFor (sheet .rows)) ≡ 48 * length (sheet .rows)
   pub records : length (sheet .records) ≡ length (sheet .rows)
+
+-- the slots of a row that comes behind others: those of the gates that its steps make
+abbrev pub rowSlots : (before : List Fields) → Fields → List ℤ
+rowSlots before f =
+    let made = length (gates 0 (steps before)) in
+    slotsOf (clausesFrom made (gates made (rowSteps (cells before) f)))
+
+-- each row's part of the slots, by its record, is the row's own
+abbrev pub PartsAreRows : Type 0
+PartsAreRows =
+    (table : List ℕ) (sheet : Sheet) → accept table ≡ accepted sheet → (before : List Fields) (f : Fields) (after : List Fields) → sheet .rows ≡ before ++ f ∷ after
+    → part (accepted (recordAt (sheet .records) (length before))) (slotsFor (sheet .rows)) ≡ rowSlots before f
 
 abbrev pub CountsAreMade : Type 0
 CountsAreMade = (table : List ℕ) (sheet : Sheet) → accept table ≡ accepted sheet → Counted sheet

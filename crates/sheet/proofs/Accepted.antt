@@ -2,7 +2,7 @@
 -- Assumes nothing.
 use mathlib.Core.Path.{_≡_, refl, sym, _∙_, ap, subst}
 use mathlib.Core.Bool.{Bool, true, false, not, false≢true}
-use mathlib.Core.List.{List, [], _∷_, _++_}
+use mathlib.Core.List.{List, [], _∷_, _++_, append-assoc, append-nil}
 use Prim.Native.Nat.{ℕ, zero, suc, _+_, _-_, _/_, _%_, _≤_, _<_}
 use native.Mathlib.Omega.{arith}
 use lib.Dec.{eqb, ltb}
@@ -56,6 +56,52 @@ pub record Passes (earlier : List Record) (first : ℕ) (f : Fields) (r : Record
 abbrev pub Passed : List Record → Counts → List Fields → List Record → Counts → Type 0
 Passed earlier so [] records total = (earlier ≡ records) × (so ≡ total)
 Passed earlier so (f ∷ rows) records total = (r : Record) × (k : Counts) × Passes earlier (so .slots) f r k × Passed (earlier ++ r ∷ []) (so ⊕ k) rows records total
+
+-- the records before a row stand at the front of all
+passed-front : (rows : List Fields) (rs : List Record) (so : Counts) (records : List Record) (total : Counts) → Passed rs so rows records total → (rest : List Record) × (records ≡ rs ++ rest)
+passed-front [] rs so records total p = ([], sym (p .0) ∙ sym (append-nil rs))
+passed-front (f ∷ rows) rs so records total p =
+    let (rest, e) = passed-front rows (rs ++ p .0 ∷ []) (so ⊕ p .1) records total (p .3) in
+    (p .0 ∷ rest, e ∙ append-assoc rs (p .0 ∷ []) rest)
+
+pub passed-many : (rows : List Fields) (rs : List Record) (so : Counts) (records : List Record) (total : Counts) → Passed rs so rows records total → length records ≡ length rs + length rows
+passed-many [] rs so records total p = rw (sym (p .0)) (omega arith)
+passed-many (f ∷ rows) rs so records total p = passed-many rows (rs ++ p .0 ∷ []) (so ⊕ p .1) records total (p .3) ∙ rw (length-append rs (p .0 ∷ [])) (omega arith)
+
+passed-split : (before rest : List Fields) (rs : List Record) (so : Counts) (records : List Record) (total : Counts) → Passed rs so (before ++ rest) records total
+    → (mid : List Record) × (k : Counts) × Passed rs so before mid k × Passed mid k rest records total
+passed-split [] rest rs so records total p = (rs, so, (refl, refl), p)
+passed-split (f ∷ before) rest rs so records total p =
+    let (mid, k, q, r) = passed-split before rest (rs ++ p .0 ∷ []) (so ⊕ p .1) records total (p .3) in
+    (mid, k, (p .0, p .1, p .2, q), r)
+
+-- a row that passes behind others, which pass too
+pub record Behind (records : List Record) (before : List Fields) (f : Fields) : Type 0 where
+  pub earlier : List Record
+  pub so : Counts
+  pub passed : Passed [] theFirst before earlier so
+  pub own : Record
+  pub counts : Counts
+  pub passes : Passes earlier (so .slots) f own counts
+  pub rest : List Record
+  pub front : records ≡ earlier ++ own ∷ rest
+  pub place : length earlier ≡ length before
+
+pub passed-behind : (before : List Fields) (f : Fields) (behind : List Fields) (records : List Record) (total : Counts) → Passed [] theFirst (before ++ f ∷ behind) records total → Behind records before f
+passed-behind before f behind records total p =
+    let (earlier, so, q, r) = passed-split before (f ∷ behind) [] theFirst records total p in
+    let (rest, e) = passed-front behind (earlier ++ r .0 ∷ []) (so ⊕ r .1) records total (r .3) in
+    record {
+      earlier = earlier;
+      so = so;
+      passed = q;
+      own = r .0;
+      counts = r .1;
+      passes = r .2;
+      rest = rest;
+      front = e ∙ append-assoc earlier (r .0 ∷ []) rest;
+      place = passed-many before [] theFirst earlier so q ∙ omega arith;
+    }
 
 not-stopped : (n : ℕ) (b : Bool) (v : Verdict) {r : Record} {k : Counts} → (stop n if b else v) ≡ Pass r k → (b ≡ false) × (v ≡ Pass r k)
 not-stopped n true v e = let z : _≡_ {A = ℕ} 0 1 = cc in absurd (omega arith)
