@@ -206,23 +206,23 @@ of-bit v = by (eqZ v (pos 0)) (eqZ v (pos 1)) refl refl
     by false false ea eb e = absurd (false≢true e)
 
 -- an unknown's value has the numerator chosen
-own-numerator : (earlier : List Value) (k : Kind) (p x y z : ℕ) (v : ℤ) → isUnknown (uses k) ≡ true → inBits (uses k) p v ≡ true → numerator (valueBy earlier k p x y z v) ≡ v
-own-numerator earlier BooleanUnknown p x y z v u b = of-bit v b
-own-numerator earlier NaturalUnknown p x y z v u b = refl
-own-numerator earlier IntegerUnknown p x y z v u b = refl
-own-numerator earlier BooleanConstant p x y z v u b = absurd (false≢true u)
-own-numerator earlier NumberConstant p x y z v u b = absurd (false≢true u)
-own-numerator earlier Not p x y z v u b = absurd (false≢true u)
-own-numerator earlier And p x y z v u b = absurd (false≢true u)
-own-numerator earlier Or p x y z v u b = absurd (false≢true u)
-own-numerator earlier Implies p x y z v u b = absurd (false≢true u)
-own-numerator earlier Iff p x y z v u b = absurd (false≢true u)
-own-numerator earlier Sum p x y z v u b = absurd (false≢true u)
-own-numerator earlier Difference p x y z v u b = absurd (false≢true u)
-own-numerator earlier Product p x y z v u b = absurd (false≢true u)
-own-numerator earlier Choice p x y z v u b = absurd (false≢true u)
-own-numerator earlier Greater p x y z v u b = absurd (false≢true u)
-own-numerator earlier Equal p x y z v u b = absurd (false≢true u)
+own-numerator : (k : Kind) (p x y z : ℕ) (a b c : Value) (v : ℤ) → isUnknown (uses k) ≡ true → inBits (uses k) p v ≡ true → numerator (valueBy k p x y z a b c v) ≡ v
+own-numerator BooleanUnknown p x y z a b c v u i = of-bit v i
+own-numerator NaturalUnknown p x y z a b c v u i = refl
+own-numerator IntegerUnknown p x y z a b c v u i = refl
+own-numerator BooleanConstant p x y z a b c v u i = absurd (false≢true u)
+own-numerator NumberConstant p x y z a b c v u i = absurd (false≢true u)
+own-numerator Not p x y z a b c v u i = absurd (false≢true u)
+own-numerator And p x y z a b c v u i = absurd (false≢true u)
+own-numerator Or p x y z a b c v u i = absurd (false≢true u)
+own-numerator Implies p x y z a b c v u i = absurd (false≢true u)
+own-numerator Iff p x y z a b c v u i = absurd (false≢true u)
+own-numerator Sum p x y z a b c v u i = absurd (false≢true u)
+own-numerator Difference p x y z a b c v u i = absurd (false≢true u)
+own-numerator Product p x y z a b c v u i = absurd (false≢true u)
+own-numerator Choice p x y z a b c v u i = absurd (false≢true u)
+own-numerator Greater p x y z a b c v u i = absurd (false≢true u)
+own-numerator Equal p x y z a b c v u i = absurd (false≢true u)
 
 -- the unknowns' numerators among the rows' values are the values chosen
 pub chosen-found : (rows : List Fields) (earlier : List Value) (vs : List ℤ) → Enough rows vs → AllIn rows vs → ofUnknowns rows (newValues earlier rows vs) ≡ vs
@@ -238,5 +238,5 @@ chosen-found (f ∷ rows) earlier vs n a = by (isUnknown (uses (f .kind))) refl 
         → AllIn rows (drop (bit b) vs) → Rest
         → (let v = rowVal earlier f (first vs) in let rest = ofUnknowns rows (newValues (earlier ++ v ∷ []) rows (drop (bit b) vs)) in if b then numerator v ∷ rest else rest) ≡ vs
     by true u [] n b a rest = absurd (omega arith)
-    by true u (v ∷ vs) n b a rest = ap₂ _∷_ (own-numerator earlier (f .kind) (f .p) (f .x) (f .y) (f .z) v u b) (rest (earlier ++ rowVal earlier f v ∷ []) vs (omega arith) a)
+    by true u (v ∷ vs) n b a rest = ap₂ _∷_ (own-numerator (f .kind) (f .p) (f .x) (f .y) (f .z) _ _ _ v u b) (rest (earlier ++ rowVal earlier f v ∷ []) vs (omega arith) a)
     by false u vs n b a rest = rest (earlier ++ rowVal earlier f (first vs) ∷ []) vs n a

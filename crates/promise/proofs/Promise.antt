@@ -76,7 +76,7 @@ module _ (sheet : Sheet) (k : Known sheet) where
   last-shown s et values h =
       let i = length (sheet .rows) - 1 in
       let vs = rowValues (sheet .rows) values in
-      or-false (litTrue s (lit (cells (sheet .rows)) i))
+      or-false (litTrue s (lit (cellAt (cells (sheet .rows)) i)))
       ∙ shows-truth s (recordAt (sheet .records) i) (cellAt (cells (sheet .rows)) i) (valueAt vs i) (show-at s et (sheet .records) (cells (sheet .rows)) vs h i) (k .ends)
 
   pub model-last : (s : Assignment) → allTrue s (clausesButLast (sheet .rows)) ≡ true → clauseTrue s (lastClause (sheet .rows)) ≡ constraint sheet (settings sheet s)

@@ -53,8 +53,8 @@ abbrev pub FitBoth : List Record → List Value → List ℕ → Type 0
 FitBoth records values [] = Unit {0}
 FitBoth records values (x ∷ []) = Unit {0}
 FitBoth records values (x ∷ y ∷ xs) =
-    Fits (widthOver (meeting (recordAt records x) (recordAt records y)) (recordAt records x)) (over values (shared values x y) x)
-    × Fits (widthOver (meeting (recordAt records x) (recordAt records y)) (recordAt records y)) (over values (shared values x y) y)
+    Fits (widthOver (meeting (recordAt records x) (recordAt records y)) (recordAt records x)) (over (shared (valueAt values x) (valueAt values y)) (valueAt values x))
+    × Fits (widthOver (meeting (recordAt records x) (recordAt records y)) (recordAt records y)) (over (shared (valueAt values x) (valueAt values y)) (valueAt values y))
 
 -- row i, of fields f
 pub record Wide (sheet : Sheet) (values : List Value) (i : ℕ) (f : Fields) : Type 0 where

@@ -24,7 +24,7 @@ use Rattle.sheet.specs.declared.Fields.{Fields}
 use Rattle.sheet.specs.declared.Record.{Record}
 use Rattle.sheet.specs.Rows.{constantIn, Uses, aFlag, aBoolean, aNatural, anInteger, aConstant, theRows, uses}
 use Rattle.sheet.specs.Acceptance.{outside, outOfRange, booleanPlan, numberPlan, widthOver, bringing, recordBy, recordAt}
-use Rattle.sheet.specs.Steps.{Cell, booleanCell, numberCell, negated, withSign, cellAt, bits, lit, below, least, brought, stepsBy, rowSteps}
+use Rattle.sheet.specs.Steps.{Cell, booleanCell, numberCell, negated, withSign, lit, least, brought, stepsBy, cellAt, rowSteps}
 use Rattle.sheet.proofs.Accepted.{meetingAt, largerAt, planAt, Passes}
 use Rattle.sheet.proofs.Tested.{neither, at-least}
 
@@ -79,21 +79,21 @@ module _ (s : State) (h : 0 < s .place) (rs : List Record) (cs : List Cell) (ok 
   at : (x : ℕ) → CellFor (s .place) (recordAt rs x) (cellAt cs x)
   at x = cell-at (s .place) h rs cs ok x
 
-  lit-named : (x : ℕ) → Names (s .place) (lit cs x)
-  lit-named x = first-named (s .place) h (bits cs x) (at x .lits .low)
+  lit-named : (x : ℕ) → Names (s .place) (lit (cellAt cs x))
+  lit-named x = first-named (s .place) h (cellAt cs x .literals) (at x .lits .low)
 
-  neg-named : (x : ℕ) → Names (s .place) (neg (lit cs x))
-  neg-named x = omega (arith, lit-named x, var-neg (lit cs x))
+  neg-named : (x : ℕ) → Names (s .place) (neg (lit (cellAt cs x)))
+  neg-named x = omega (arith, lit-named x, var-neg (lit (cellAt cs x)))
 
-  same-least : (x y : ℕ) → meetingAt rs x y ≡ least cs x y
+  same-least : (x y : ℕ) → meetingAt rs x y ≡ least (cellAt cs x) (cellAt cs y)
   same-least x y = ap₂ lcm (at x .under) (at y .under)
 
   -- both numbers over one denominator, the first before the second
   brought-cost : {A : Type 0} {Q : State → A → Type 0} (x y : ℕ) (made : List Lit → List Lit → Circuit A)
       → ((m : State) (xs ys : List Lit) → Spent s m (bringing (recordAt rs x) (recordAt rs y)) → 0 < m .place → Lits (m .place) (widthOver (meetingAt rs x y) (recordAt rs x)) xs → Lits (m .place) (widthOver (meetingAt rs x y) (recordAt rs y)) ys → Cost m (made xs ys) Q)
-      → Cost s (brought cs x y made) Q
+      → Cost s (brought (cellAt cs x) (cellAt cs y) made) Q
   brought-cost {Q = Q} x y made f =
-      subst₂ (λ (i j : ℕ). Cost s (expansion i (bits cs x) >>= λ xs. expansion j (bits cs y) >>= λ ys. made xs ys) Q)
+      subst₂ (λ (i j : ℕ). Cost s (expansion i (cellAt cs x .literals) >>= λ xs. expansion j (cellAt cs y .literals) >>= λ ys. made xs ys) Q)
       (ap₂ _/_ (same-least x y) (at x .under)) (ap₂ _/_ (same-least x y) (at y .under))
       (cost-bind (expansion-cost s h (meetingAt rs x y / recordAt rs x .denominator) (at x .some) (at x .lits)) (λ i xs a.
       cost-bind (expansion-cost i (omega arith) (meetingAt rs x y / recordAt rs y .denominator) (at y .some) (lits-up (omega arith) (at y .lits))) (λ j ys b.
@@ -120,31 +120,31 @@ module _ (s : State) (h : 0 < s .place) (rs : List Record) (cs : List Cell) (ok 
     together : {A : Type 0} {Q : State → A → Type 0} {k : Counts} (x y : ℕ) (made : List Lit → List Lit → Circuit A)
         → ((m : State) (xs ys : List Lit) → s .place ≤ m .place → 0 < m .place → Lits (m .place) (widthOver (meetingAt rs x y) (recordAt rs x)) xs → Lits (m .place) (widthOver (meetingAt rs x y) (recordAt rs y)) ys
         → Cost m (made xs ys) (λ i r. Spent m i k × Q i r))
-        → Cost s (brought cs x y made) (λ i r. Spent s i (bringing (recordAt rs x) (recordAt rs y) ⊕ k) × Q i r)
+        → Cost s (brought (cellAt cs x) (cellAt cs y) made) (λ i r. Spent s i (bringing (recordAt rs x) (recordAt rs y) ⊕ k) × Q i r)
     together x y made f = brought-cost x y made (λ m xs ys g p a b. cost-map (f m xs ys (omega arith) p a b) (λ i r q. (grown-then g (q .0), q .1)))
 
     cost-by : (k : Kind) (p x y z : ℕ) → outOfRange (uses k) p x z ≡ false
-        → Cost s (stepsBy cs k p x y z) (λ i c. Grown s i (bitsAsked (uses k) p) (planAt rs k p x y z .counts) × CellFor (i .place) (recordBy first (planAt rs k p x y z)) c)
+        → Cost s (stepsBy k p x y z (cellAt cs x) (cellAt cs y) (cellAt cs z)) (λ i c. Grown s i (bitsAsked (uses k) p) (planAt rs k p x y z .counts) × CellFor (i .place) (recordBy first (planAt rs k p x y z)) c)
     cost-by BooleanConstant p x y z o = boolean-cell (ret (known (eqb x 1))) (cost-ret (omega arith, known-named (s .place) h (eqb x 1)))
     cost-by BooleanUnknown p x y z o = boolean-cell (make free) (cost-new tt (cost-ret (omega arith)))
     cost-by NaturalUnknown p x y z o = number-cell (withSign (unknown p)) z z (omega arith) refl (cost-bind (unknown-cost s p) (λ i ls q. cost-ret (q .0, rw (add-one p) (lits-snoc (q .1) falsity (omega arith)))))
     cost-by IntegerUnknown p x y z o = number-cell (unknown p) z z (at-least 1 32 p (neither (outside 1 32 p) (outside 1 4096 z) o .0)) refl (unknown-cost s p)
     cost-by NumberConstant p x y z o = number-cell (ret (constant (constantIn x y))) z z (omega arith) refl (cost-ret (omega arith, constant-lits (constantIn x y) h))
-    cost-by Not p x y z o = boolean-cell (ret (neg (lit cs x))) (cost-ret (omega arith, neg-named x))
-    cost-by And p x y z o = boolean-cell (make (and (lit cs x) (lit cs y))) (cost-new (lit-named x, lit-named y) (cost-ret (omega arith)))
-    cost-by Or p x y z o = negated-cell (make (and (neg (lit cs x)) (neg (lit cs y)))) (cost-new (neg-named x, neg-named y) (cost-ret (omega arith)))
-    cost-by Implies p x y z o = negated-cell (make (and (lit cs x) (neg (lit cs y)))) (cost-new (lit-named x, neg-named y) (cost-ret (omega arith)))
-    cost-by Iff p x y z o = negated-cell (make (xor (lit cs x) (lit cs y))) (cost-new (lit-named x, lit-named y) (cost-ret (omega arith)))
-    cost-by Sum p x y z o = rw (add-one (largerAt rs x y)) (number-cell (brought cs x y sum) (meetingAt rs x y) (least cs x y) (omega arith) (same-least x y)
+    cost-by Not p x y z o = boolean-cell (ret (neg (lit (cellAt cs x)))) (cost-ret (omega arith, neg-named x))
+    cost-by And p x y z o = boolean-cell (make (and (lit (cellAt cs x)) (lit (cellAt cs y)))) (cost-new (lit-named x, lit-named y) (cost-ret (omega arith)))
+    cost-by Or p x y z o = negated-cell (make (and (neg (lit (cellAt cs x))) (neg (lit (cellAt cs y))))) (cost-new (neg-named x, neg-named y) (cost-ret (omega arith)))
+    cost-by Implies p x y z o = negated-cell (make (and (lit (cellAt cs x)) (neg (lit (cellAt cs y))))) (cost-new (lit-named x, neg-named y) (cost-ret (omega arith)))
+    cost-by Iff p x y z o = negated-cell (make (xor (lit (cellAt cs x)) (lit (cellAt cs y)))) (cost-new (lit-named x, lit-named y) (cost-ret (omega arith)))
+    cost-by Sum p x y z o = rw (add-one (largerAt rs x y)) (number-cell (brought (cellAt cs x) (cellAt cs y) sum) (meetingAt rs x y) (least (cellAt cs x) (cellAt cs y)) (omega arith) (same-least x y)
         (together x y sum (λ m xs ys u h a b. sum-cost m h (wide _ x) (wide _ y) a b)))
-    cost-by Difference p x y z o = rw (add-one (largerAt rs x y)) (number-cell (brought cs x y difference) (meetingAt rs x y) (least cs x y) (omega arith) (same-least x y)
+    cost-by Difference p x y z o = rw (add-one (largerAt rs x y)) (number-cell (brought (cellAt cs x) (cellAt cs y) difference) (meetingAt rs x y) (least (cellAt cs x) (cellAt cs y)) (omega arith) (same-least x y)
         (together x y difference (λ m xs ys u h a b. difference-cost m h (wide _ x) (wide _ y) a b)))
-    cost-by Product p x y z o = number-cell (product (bits cs x) (bits cs y)) (recordAt rs x .denominator * recordAt rs y .denominator) (below cs x * below cs y) (omega (arith, at x .some)) (ap₂ _*_ (at x .under) (at y .under))
+    cost-by Product p x y z o = number-cell (product (cellAt cs x .literals) (cellAt cs y .literals)) (recordAt rs x .denominator * recordAt rs y .denominator) (cellAt cs x .denominator * cellAt cs y .denominator) (omega (arith, at x .some)) (ap₂ _*_ (at x .under) (at y .under))
         (product-cost s h (at x .some) (at y .some) (at x .lits) (at y .lits))
-    cost-by Choice p x y z o = number-cell (brought cs y z (choice (lit cs x))) (meetingAt rs y z) (least cs y z) (omega (arith, wide (meetingAt rs y z) y)) (same-least y z)
-        (together y z (choice (lit cs x)) (λ m xs ys u h a b. choice-cost m h (wide _ y) (wide _ z) a b (lit cs x) (omega (arith, lit-named x))))
-    cost-by Greater p x y z o = boolean-cell (brought cs x y greater) (together x y greater (λ m xs ys u h a b. greater-cost m h (wide _ x) (wide _ y) a b))
-    cost-by Equal p x y z o = boolean-cell (brought cs x y equal) (together x y equal (λ m xs ys u h a b. equal-cost m h (wide _ x) (wide _ y) a b))
+    cost-by Choice p x y z o = number-cell (brought (cellAt cs y) (cellAt cs z) (choice (lit (cellAt cs x)))) (meetingAt rs y z) (least (cellAt cs y) (cellAt cs z)) (omega (arith, wide (meetingAt rs y z) y)) (same-least y z)
+        (together y z (choice (lit (cellAt cs x))) (λ m xs ys u h a b. choice-cost m h (wide _ y) (wide _ z) a b (lit (cellAt cs x)) (omega (arith, lit-named x))))
+    cost-by Greater p x y z o = boolean-cell (brought (cellAt cs x) (cellAt cs y) greater) (together x y greater (λ m xs ys u h a b. greater-cost m h (wide _ x) (wide _ y) a b))
+    cost-by Equal p x y z o = boolean-cell (brought (cellAt cs x) (cellAt cs y) equal) (together x y equal (λ m xs ys u h a b. equal-cost m h (wide _ x) (wide _ y) a b))
 
     pub row-cost : (f : Fields) (r : Record) (k : Counts) → Passes rs first f r k
         → Cost s (rowSteps cs f) (λ i c. Grown s i (bitsAsked (uses (f .kind)) (f .p)) k × CellFor (i .place) r c)

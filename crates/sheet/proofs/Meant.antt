@@ -24,9 +24,9 @@ use Rattle.sheet.specs.declared.Kind.the-variants.{BooleanConstant, Bool
 use Rattle.sheet.specs.declared.Fields.{Fields}
 use Rattle.sheet.specs.declared.Record.{Record}
 use Rattle.sheet.specs.Rows.{constantIn, uses}
-use Rattle.sheet.specs.Values.{Value, boolean, fraction, truthOf, numerator, denominator, valueAt, is, shared, over, valueBy, rowVal, inBits}
+use Rattle.sheet.specs.Values.{Value, boolean, fraction, truthOf, numerator, denominator, shared, over, valueBy, valueAt, rowVal, inBits}
 use Rattle.sheet.specs.Acceptance.{outside, outOfRange, recordBy, recordAt}
-use Rattle.sheet.specs.Steps.{Cell, booleanCell, numberCell, cellAt, bits, lit, below, least, brought, stepsBy, rowSteps, bitsBy}
+use Rattle.sheet.specs.Steps.{Cell, booleanCell, numberCell, lit, least, brought, stepsBy, cellAt, rowSteps, bitsBy}
 use Rattle.sheet.proofs.Accepted.{sortAt, planAt, Sorted, Passes}
 use Rattle.sheet.proofs.Tested.{neither, at-least, right-sort, two-sorts, natural-in, integer-in}
 
@@ -101,37 +101,37 @@ module _ (s : Assignment) (et : litTrue s truth ≡ true) where
   known-reads false = ap not et
 
   module _ (l : List Bool) (rs : List Record) (cs : List Cell) (vs : List Value) (h : ShowAll s rs cs vs) where
-    truth-at : (x : ℕ) → sortAt rs x ≡ 0 → litTrue s (lit cs x) ≡ is vs x
+    truth-at : (x : ℕ) → sortAt rs x ≡ 0 → litTrue s (lit (cellAt cs x)) ≡ truthOf (valueAt vs x)
     truth-at x e = truth-of (recordAt rs x) (cellAt cs x) (valueAt vs x) (show-at rs cs vs h x) e
 
-    neg-at : (x : ℕ) → sortAt rs x ≡ 0 → litTrue s (neg (lit cs x)) ≡ not (is vs x)
-    neg-at x e = litTrue-neg s (lit cs x) ∙ ap not (truth-at x e)
+    neg-at : (x : ℕ) → sortAt rs x ≡ 0 → litTrue s (neg (lit (cellAt cs x))) ≡ not (truthOf (valueAt vs x))
+    neg-at x e = litTrue-neg s (lit (cellAt cs x)) ∙ ap not (truth-at x e)
 
-    number-at : (x : ℕ) → sortAt rs x ≡ 1 → Reads s (bits cs x) (numerator (valueAt vs x)) × (below cs x ≡ denominator (valueAt vs x))
+    number-at : (x : ℕ) → sortAt rs x ≡ 1 → Reads s (cellAt cs x .literals) (numerator (valueAt vs x)) × (cellAt cs x .denominator ≡ denominator (valueAt vs x))
     number-at x e = number-of (recordAt rs x) (cellAt cs x) (valueAt vs x) (show-at rs cs vs h x) e
 
-    same-shared : (x y : ℕ) → sortAt rs x ≡ 1 → sortAt rs y ≡ 1 → least cs x y ≡ shared vs x y
+    same-shared : (x y : ℕ) → sortAt rs x ≡ 1 → sortAt rs y ≡ 1 → least (cellAt cs x) (cellAt cs y) ≡ shared (valueAt vs x) (valueAt vs y)
     same-shared x y ex ey = ap₂ lcm (number-at x ex .1) (number-at y ey .1)
 
     brought-sem : {A : Type 0} {Q : A → Type 0} (x y : ℕ) (made : List Lit → List Lit → Circuit A) → sortAt rs x ≡ 1 → sortAt rs y ≡ 1
-        → ((xs ys : List Lit) → Reads s xs (over vs (shared vs x y) x) → Reads s ys (over vs (shared vs x y) y) → Sem s l (made xs ys) l Q) → Sem s l (brought cs x y made) l Q
+        → ((xs ys : List Lit) → Reads s xs (over (shared (valueAt vs x) (valueAt vs y)) (valueAt vs x)) → Reads s ys (over (shared (valueAt vs x) (valueAt vs y)) (valueAt vs y)) → Sem s l (made xs ys) l Q) → Sem s l (brought (cellAt cs x) (cellAt cs y) made) l Q
     brought-sem x y made ex ey f =
         let nx = number-at x ex in
         let ny = number-at y ey in
         let e = same-shared x y ex ey in
-        sem-bind (expansion-reads s et l (least cs x y / below cs x) (nx .0)) (λ xs rx. sem-bind (expansion-reads s et l (least cs x y / below cs y) (ny .0)) (λ ys ry.
+        sem-bind (expansion-reads s et l (least (cellAt cs x) (cellAt cs y) / cellAt cs x .denominator) (nx .0)) (λ xs rx. sem-bind (expansion-reads s et l (least (cellAt cs x) (cellAt cs y) / cellAt cs y .denominator) (ny .0)) (λ ys ry.
         f xs ys (subst₂ (λ (a b : ℕ). Reads s xs (numerator (valueAt vs x) *ℤ pos (a / b))) e (nx .1) rx)
         (subst₂ (λ (a b : ℕ). Reads s ys (numerator (valueAt vs y) *ℤ pos (a / b))) e (ny .1) ry)))
 
     -- a row of two numbers brought together: a number, or a truth
     number-sem : {r : Record} {n : ℤ} (x y : ℕ) (made : List Lit → List Lit → Circuit (List Lit)) → r .sort ≡ 1 → (sortAt rs x ≡ 1) × (sortAt rs y ≡ 1)
-        → ((xs ys : List Lit) → Reads s xs (over vs (shared vs x y) x) → Reads s ys (over vs (shared vs x y) y) → Sem s l (made xs ys) l (λ ls. Reads s ls n))
-        → Sem s l (numberCell (least cs x y) (brought cs x y made)) l (λ c. ShowsNumber s r c n (shared vs x y))
+        → ((xs ys : List Lit) → Reads s xs (over (shared (valueAt vs x) (valueAt vs y)) (valueAt vs x)) → Reads s ys (over (shared (valueAt vs x) (valueAt vs y)) (valueAt vs y)) → Sem s l (made xs ys) l (λ ls. Reads s ls n))
+        → Sem s l (numberCell (least (cellAt cs x) (cellAt cs y)) (brought (cellAt cs x) (cellAt cs y) made)) l (λ c. ShowsNumber s r c n (shared (valueAt vs x) (valueAt vs y)))
     number-sem x y made number e f = sem-bind (brought-sem x y made (e .0) (e .1) f) (λ ls a. sem-ret (record { sorted = number; reads = a; under = same-shared x y (e .0) (e .1) }))
 
     truth-sem : {r : Record} {b : Bool} (x y : ℕ) (made : List Lit → List Lit → Circuit Lit) → r .sort ≡ 0 → (sortAt rs x ≡ 1) × (sortAt rs y ≡ 1)
-        → ((xs ys : List Lit) → Reads s xs (over vs (shared vs x y) x) → Reads s ys (over vs (shared vs x y) y) → Sem s l (made xs ys) l (λ u. litTrue s u ≡ b))
-        → Sem s l (booleanCell (brought cs x y made)) l (λ c. ShowsTruth s r c b)
+        → ((xs ys : List Lit) → Reads s xs (over (shared (valueAt vs x) (valueAt vs y)) (valueAt vs x)) → Reads s ys (over (shared (valueAt vs x) (valueAt vs y)) (valueAt vs y)) → Sem s l (made xs ys) l (λ u. litTrue s u ≡ b))
+        → Sem s l (booleanCell (brought (cellAt cs x) (cellAt cs y) made)) l (λ c. ShowsTruth s r c b)
     truth-sem x y made isBoolean e f = sem-bind (brought-sem x y made (e .0) (e .1) f) (λ u a. sem-ret (record { sorted = isBoolean; reads = a }))
 
     negated-reads : (u : Lit) {a b : Bool} → litTrue s u ≡ a → a ≡ b → litTrue s (neg u) ≡ not b
@@ -145,7 +145,7 @@ module _ (s : Assignment) (et : litTrue s truth ≡ true) where
     integer-row (suc p) v ls h a k = integer-reads s ls p v (below-fits a) k
 
     sem-by : (first : ℕ) (k : Kind) (p x y z : ℕ) (v : ℤ) → outOfRange (uses k) p x z ≡ false → Sorted rs k x y z
-        → inBits (uses k) p v ≡ true → Sem s (bitsBy (uses k) p v ++ l) (stepsBy cs k p x y z) l (λ c. Shows s (recordBy first (planAt rs k p x y z)) c (valueBy vs k p x y z v))
+        → inBits (uses k) p v ≡ true → Sem s (bitsBy (uses k) p v ++ l) (stepsBy k p x y z (cellAt cs x) (cellAt cs y) (cellAt cs z)) l (λ c. Shows s (recordBy first (planAt rs k p x y z)) c (valueBy k p x y z (valueAt vs x) (valueAt vs y) (valueAt vs z) v))
     sem-by first BooleanConstant p x y z v o w b = sem-ret (record { sorted = refl; reads = known-reads (eqb x 1) })
     sem-by first BooleanUnknown p x y z v o w b = sem-new (λ u eu. sem-ret (record { sorted = refl; reads = eu }))
     sem-by first NaturalUnknown p x y z v o w b = sem-bind (sem-bind (unknown-sem s l p v) (λ ls e. sem-ret (natural-row p v ls (natural-in p v b) e))) (λ ls e. sem-ret (record { sorted = refl; reads = e; under = refl }))
@@ -158,13 +158,13 @@ module _ (s : Assignment) (et : litTrue s truth ≡ true) where
         sem-new (λ u eu. sem-ret (record { sorted = refl; reads = eu ∙ ap₂ _&&_ (truth-at x ex) (truth-at y ey) }))
     sem-by first Or p x y z v o w b =
         let (ex, ey) = two-sorts (sortAt rs x) 0 (sortAt rs y) 0 w in
-        sem-new (λ u eu. sem-ret (record { sorted = refl; reads = negated-reads u eu (ap₂ _&&_ (neg-at x ex) (neg-at y ey)) ∙ or-law (is vs x) (is vs y) }))
+        sem-new (λ u eu. sem-ret (record { sorted = refl; reads = negated-reads u eu (ap₂ _&&_ (neg-at x ex) (neg-at y ey)) ∙ or-law (truthOf (valueAt vs x)) (truthOf (valueAt vs y)) }))
     sem-by first Implies p x y z v o w b =
         let (ex, ey) = two-sorts (sortAt rs x) 0 (sortAt rs y) 0 w in
-        sem-new (λ u eu. sem-ret (record { sorted = refl; reads = negated-reads u eu (ap₂ _&&_ (truth-at x ex) (neg-at y ey)) ∙ implies-law (is vs x) (is vs y) }))
+        sem-new (λ u eu. sem-ret (record { sorted = refl; reads = negated-reads u eu (ap₂ _&&_ (truth-at x ex) (neg-at y ey)) ∙ implies-law (truthOf (valueAt vs x)) (truthOf (valueAt vs y)) }))
     sem-by first Iff p x y z v o w b =
         let (ex, ey) = two-sorts (sortAt rs x) 0 (sortAt rs y) 0 w in
-        sem-new (λ u eu. sem-ret (record { sorted = refl; reads = negated-reads u eu (ap₂ xorOf (truth-at x ex) (truth-at y ey)) ∙ iff-law (is vs x) (is vs y) }))
+        sem-new (λ u eu. sem-ret (record { sorted = refl; reads = negated-reads u eu (ap₂ xorOf (truth-at x ex) (truth-at y ey)) ∙ iff-law (truthOf (valueAt vs x)) (truthOf (valueAt vs y)) }))
     sem-by first Sum p x y z v o w b = number-sem x y sum refl (two-sorts (sortAt rs x) 1 (sortAt rs y) 1 w) (λ xs ys rx ry. sum-reads s et l rx ry)
     sem-by first Difference p x y z v o w b = number-sem x y difference refl (two-sorts (sortAt rs x) 1 (sortAt rs y) 1 w) (λ xs ys rx ry. difference-reads s et l rx ry)
     sem-by first Product p x y z v o w b =
@@ -172,7 +172,7 @@ module _ (s : Assignment) (et : litTrue s truth ≡ true) where
         sem-bind (product-reads s et l (number-at x ex .0) (number-at y ey .0)) (λ r rr. sem-ret (record { sorted = refl; reads = rr; under = ap₂ _*_ (number-at x ex .1) (number-at y ey .1) }))
     sem-by first Choice p x y z v o w b =
         let (ex, rest) = right-sort (sortAt rs x) 0 (not (eqb (sortAt rs y) 1) || (not (eqb (sortAt rs z) 1) || false)) w in
-        number-sem y z (choice (lit cs x)) refl (two-sorts (sortAt rs y) 1 (sortAt rs z) 1 rest) (λ xs ys rx ry. choice-reads s et l (lit cs x) (is vs x) (truth-at x ex) rx ry)
+        number-sem y z (choice (lit (cellAt cs x))) refl (two-sorts (sortAt rs y) 1 (sortAt rs z) 1 rest) (λ xs ys rx ry. choice-reads s et l (lit (cellAt cs x)) (truthOf (valueAt vs x)) (truth-at x ex) rx ry)
     sem-by first Greater p x y z v o w b = truth-sem x y greater refl (two-sorts (sortAt rs x) 1 (sortAt rs y) 1 w) (λ xs ys rx ry. greater-reads s et l rx ry)
     sem-by first Equal p x y z v o w b = truth-sem x y equal refl (two-sorts (sortAt rs x) 1 (sortAt rs y) 1 w) (λ xs ys rx ry. equal-reads s et l rx ry)
 

@@ -21,7 +21,7 @@ use Rattle.sheet.specs.declared.Kind.the-variants.{Not, And, Or, Implies
 use Rattle.sheet.specs.declared.Fields.{Fields}
 use Rattle.sheet.specs.declared.Record.{Record}
 use Rattle.sheet.specs.Rows.{constantIn, uses}
-use Rattle.sheet.specs.Values.{Value, boolean, fraction, numerator, denominator, valueAt, is, shared, over, valueBy, rowVal, inBits}
+use Rattle.sheet.specs.Values.{Value, boolean, fraction, truthOf, numerator, denominator, shared, over, valueBy, valueAt, rowVal, inBits}
 use Rattle.sheet.specs.Acceptance.{outside, outOfRange, widthOver, recordBy, recordAt}
 use Rattle.sheet.proofs.Accepted.{sortAt, meetingAt, planAt, Sorted, Passes}
 use Rattle.sheet.proofs.Tested.{neither, at-least, right-sort, two-sorts, natural-in, integer-in}
@@ -80,11 +80,11 @@ module _ (earlier : List Record) (values : List Value) (h : AllHold earlier valu
   number-at x s = number (recordAt earlier x) (valueAt values x) (hold-at earlier values h x) s
 
   module _ (x y : ℕ) (isX : sortAt earlier x ≡ 1) (isY : sortAt earlier y ≡ 1) where
-    pub meeting-is : meetingAt earlier x y ≡ shared values x y
+    pub meeting-is : meetingAt earlier x y ≡ shared (valueAt values x) (valueAt values y)
     meeting-is = rw (number-at x isX .denominator, number-at y isY .denominator)
 
-    pub pair-fits : Fits (widthOver (meetingAt earlier x y) (recordAt earlier x)) (over values (shared values x y) x)
-        × Fits (widthOver (meetingAt earlier x y) (recordAt earlier y)) (over values (shared values x y) y)
+    pub pair-fits : Fits (widthOver (meetingAt earlier x y) (recordAt earlier x)) (over (shared (valueAt values x) (valueAt values y)) (valueAt values x))
+        × Fits (widthOver (meetingAt earlier x y) (recordAt earlier y)) (over (shared (valueAt values x) (valueAt values y)) (valueAt values y))
     pair-fits =
         let a = number-at x isX in
         let b = number-at y isY in
@@ -93,16 +93,16 @@ module _ (earlier : List Record) (values : List Value) (h : AllHold earlier valu
     pub pair-wide : (0 < widthOver (meetingAt earlier x y) (recordAt earlier x)) × (0 < widthOver (meetingAt earlier x y) (recordAt earlier y))
     pair-wide = (expandedWidth-pos _ (number-at x isX .wide), expandedWidth-pos _ (number-at y isY .wide))
 
-    shared-pos : 0 < shared values x y
+    shared-pos : 0 < shared (valueAt values x) (valueAt values y)
     shared-pos = lcm-pos _ _ (number-at x isX .positive) (number-at y isY .positive)
 
     of-pair : {w first slots : ℕ} {n : ℤ} → 0 < w → Fits w n
-        → HoldsNumber (record { sort = 1; width = w; denominator = meetingAt earlier x y; first = first; slots = slots }) n (shared values x y)
+        → HoldsNumber (record { sort = 1; width = w; denominator = meetingAt earlier x y; first = first; slots = slots }) n (shared (valueAt values x) (valueAt values y))
     of-pair wide fits = record { sort = refl; fits = fits; denominator = meeting-is; wide = wide; positive = shared-pos }
 
   -- by kinds, with the fields as variables, because a field of a row cannot be matched
   kind-fits : (k : Kind) (p x y z : ℕ) → outOfRange (uses k) p x z ≡ false → Sorted earlier k x y z
-      → (first : ℕ) (v : ℤ) → inBits (uses k) p v ≡ true → Holds (recordBy first (planAt earlier k p x y z)) (valueBy values k p x y z v)
+      → (first : ℕ) (v : ℤ) → inBits (uses k) p v ≡ true → Holds (recordBy first (planAt earlier k p x y z)) (valueBy k p x y z (valueAt values x) (valueAt values y) (valueAt values z) v)
   kind-fits BooleanConstant p x y z ranged sorted first v inside = (refl, refl)
   kind-fits BooleanUnknown p x y z ranged sorted first v inside = (refl, refl)
   kind-fits NaturalUnknown p x y z ranged sorted first v inside =
@@ -144,7 +144,7 @@ module _ (earlier : List Record) (values : List Value) (h : AllHold earlier valu
       let (isY, isZ) = two-sorts (sortAt earlier y) 1 (sortAt earlier z) 1 (right-sort (sortAt earlier x) 0 _ sorted .1) in
       let (a, b) = pair-fits y z isY isZ in
       let (wideA, wideB) = pair-wide y z isY isZ in
-      of-pair y z isY isZ (omega arith) (choice-fits (is values x) a b)
+      of-pair y z isY isZ (omega arith) (choice-fits (truthOf (valueAt values x)) a b)
   kind-fits Greater p x y z ranged sorted first v inside = (refl, refl)
   kind-fits Equal p x y z ranged sorted first v inside = (refl, refl)
 

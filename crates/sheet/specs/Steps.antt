@@ -42,50 +42,44 @@ negated c = c >>= λ l. ret (neg l)
 abbrev pub withSign : Circuit (List Lit) → Circuit (List Lit)
 withSign c = c >>= λ ls. ret (ls ++ falsity ∷ [])
 
-module _ (earlier : List Cell) where
-  abbrev pub cellAt : ℕ → Cell
-  cellAt x = getD earlier x (cell (falsity ∷ []) 1)
+abbrev pub lit : Cell → Lit
+lit a = getD (a .literals) 0 falsity
 
-  abbrev pub bits : ℕ → List Lit
-  bits x = cellAt x .literals
+-- the least common multiple of two numbers' denominators
+abbrev pub least : Cell → Cell → ℕ
+least a b = lcm (a .denominator) (b .denominator)
 
-  abbrev pub lit : ℕ → Lit
-  lit x = getD (bits x) 0 falsity
+-- two numbers brought to one denominator, x before y before z
+abbrev pub brought : {A : Type 0} → (a b : Cell) → (List Lit → List Lit → Circuit A) → Circuit A
+brought a b made = do
+  xs ← expansion (least a b / a .denominator) (a .literals)
+  ys ← expansion (least a b / b .denominator) (b .literals)
+  made xs ys
 
-  abbrev pub below : ℕ → ℕ
-  below x = cellAt x .denominator
+-- a, b and c are the cells of the rows x, y and z
+abbrev pub stepsBy : Kind → (p x y z : ℕ) → (a b c : Cell) → Circuit Cell
+stepsBy BooleanConstant p x y z a b c = booleanCell (ret (known (eqb x 1)))
+stepsBy BooleanUnknown p x y z a b c = booleanCell (make free)
+stepsBy NaturalUnknown p x y z a b c = numberCell z (withSign (unknown p))
+stepsBy IntegerUnknown p x y z a b c = numberCell z (unknown p)
+stepsBy NumberConstant p x y z a b c = numberCell z (ret (constant (constantIn x y)))
+stepsBy Not p x y z a b c = booleanCell (ret (neg (lit a)))
+stepsBy And p x y z a b c = booleanCell (make (and (lit a) (lit b)))
+stepsBy Or p x y z a b c = booleanCell (negated (make (and (neg (lit a)) (neg (lit b)))))
+stepsBy Implies p x y z a b c = booleanCell (negated (make (and (lit a) (neg (lit b)))))
+stepsBy Iff p x y z a b c = booleanCell (negated (make (xor (lit a) (lit b))))
+stepsBy Sum p x y z a b c = numberCell (least a b) (brought a b sum)
+stepsBy Difference p x y z a b c = numberCell (least a b) (brought a b difference)
+stepsBy Product p x y z a b c = numberCell (a .denominator * b .denominator) (product (a .literals) (b .literals))
+stepsBy Choice p x y z a b c = numberCell (least b c) (brought b c (choice (lit a)))
+stepsBy Greater p x y z a b c = booleanCell (brought a b greater)
+stepsBy Equal p x y z a b c = booleanCell (brought a b equal)
 
-  -- the least common multiple of two rows' denominators
-  abbrev pub least : ℕ → ℕ → ℕ
-  least x y = lcm (below x) (below y)
+abbrev pub cellAt : List Cell → ℕ → Cell
+cellAt cs x = getD cs x (cell (falsity ∷ []) 1)
 
-  -- two numbers brought to one denominator, x before y before z
-  abbrev pub brought : {A : Type 0} → ℕ → ℕ → (List Lit → List Lit → Circuit A) → Circuit A
-  brought x y made = do
-    xs ← expansion (least x y / below x) (bits x)
-    ys ← expansion (least x y / below y) (bits y)
-    made xs ys
-
-  abbrev pub stepsBy : Kind → (p x y z : ℕ) → Circuit Cell
-  stepsBy BooleanConstant p x y z = booleanCell (ret (known (eqb x 1)))
-  stepsBy BooleanUnknown p x y z = booleanCell (make free)
-  stepsBy NaturalUnknown p x y z = numberCell z (withSign (unknown p))
-  stepsBy IntegerUnknown p x y z = numberCell z (unknown p)
-  stepsBy NumberConstant p x y z = numberCell z (ret (constant (constantIn x y)))
-  stepsBy Not p x y z = booleanCell (ret (neg (lit x)))
-  stepsBy And p x y z = booleanCell (make (and (lit x) (lit y)))
-  stepsBy Or p x y z = booleanCell (negated (make (and (neg (lit x)) (neg (lit y)))))
-  stepsBy Implies p x y z = booleanCell (negated (make (and (lit x) (neg (lit y)))))
-  stepsBy Iff p x y z = booleanCell (negated (make (xor (lit x) (lit y))))
-  stepsBy Sum p x y z = numberCell (least x y) (brought x y sum)
-  stepsBy Difference p x y z = numberCell (least x y) (brought x y difference)
-  stepsBy Product p x y z = numberCell (below x * below y) (product (bits x) (bits y))
-  stepsBy Choice p x y z = numberCell (least y z) (brought y z (choice (lit x)))
-  stepsBy Greater p x y z = booleanCell (brought x y greater)
-  stepsBy Equal p x y z = booleanCell (brought x y equal)
-
-  unfoldable pub rowSteps : Fields → Circuit Cell
-  rowSteps f = stepsBy (f .kind) (f .p) (f .x) (f .y) (f .z)
+unfoldable pub rowSteps : (earlier : List Cell) → Fields → Circuit Cell
+rowSteps earlier f = stepsBy (f .kind) (f .p) (f .x) (f .y) (f .z) (cellAt earlier (f .x)) (cellAt earlier (f .y)) (cellAt earlier (f .z))
 
 -- rows are done in order, after variable 1
 abbrev pub stepsFrom : List Cell → List Fields → Circuit (List Cell)
@@ -107,7 +101,7 @@ unfoldable pub clausesButLast : List Fields → List Clause
 clausesButLast rows = clausesFrom 0 (gates 0 (steps rows))
 
 unfoldable pub lastClause : List Fields → Clause
-lastClause rows = lit (cells rows) (length rows - 1) ∷ []
+lastClause rows = lit (cellAt (cells rows) (length rows - 1)) ∷ []
 
 unfoldable pub clauses : List Fields → List Clause
 clauses rows = clausesButLast rows ++ lastClause rows ∷ []

@@ -33,41 +33,37 @@ abbrev pub denominator : Value → ℕ
 denominator (boolean b) = 1
 denominator (fraction n d) = d
 
-module _ (earlier : List Value) where
-  abbrev pub valueAt : ℕ → Value
-  valueAt x = getD earlier x (boolean false)
+-- the least common multiple of two numbers' denominators, and a number's numerator expanded to a denominator
+abbrev pub shared : Value → Value → ℕ
+shared a b = lcm (denominator a) (denominator b)
 
-  abbrev pub is : ℕ → Bool
-  is x = truthOf (valueAt x)
+abbrev pub over : (d : ℕ) → Value → ℤ
+over d a = numerator a *ℤ pos (d / denominator a)
 
-  -- the least common multiple of two rows' denominators, and a row's numerator expanded to it
-  abbrev pub shared : ℕ → ℕ → ℕ
-  shared x y = lcm (denominator (valueAt x)) (denominator (valueAt y))
+-- a, b and c are the values of the rows x, y and z; v is the value chosen for an unknown
+abbrev pub valueBy : Kind → (p x y z : ℕ) → (a b c : Value) → (v : ℤ) → Value
+valueBy BooleanConstant p x y z a b c v = boolean (eqb x 1)
+valueBy BooleanUnknown p x y z a b c v = boolean (eqZ v (pos 1))
+valueBy NaturalUnknown p x y z a b c v = fraction v z
+valueBy IntegerUnknown p x y z a b c v = fraction v z
+valueBy NumberConstant p x y z a b c v = fraction (constantIn x y) z
+valueBy Not p x y z a b c v = boolean (not (truthOf a))
+valueBy And p x y z a b c v = boolean (truthOf a && truthOf b)
+valueBy Or p x y z a b c v = boolean (truthOf a || truthOf b)
+valueBy Implies p x y z a b c v = boolean (not (truthOf a) || truthOf b)
+valueBy Iff p x y z a b c v = boolean (Bool·beq (truthOf a) (truthOf b))
+valueBy Sum p x y z a b c v = fraction (over (shared a b) a +ℤ over (shared a b) b) (shared a b)
+valueBy Difference p x y z a b c v = fraction (over (shared a b) a -ℤ over (shared a b) b) (shared a b)
+valueBy Product p x y z a b c v = fraction (numerator a *ℤ numerator b) (denominator a * denominator b)
+valueBy Choice p x y z a b c v = fraction (if truthOf a then over (shared b c) b else over (shared b c) c) (shared b c)
+valueBy Greater p x y z a b c v = boolean (ltZ (over (shared a b) b) (over (shared a b) a))
+valueBy Equal p x y z a b c v = boolean (eqZ (over (shared a b) a) (over (shared a b) b))
 
-  abbrev pub over : (d x : ℕ) → ℤ
-  over d x = numerator (valueAt x) *ℤ pos (d / denominator (valueAt x))
+abbrev pub valueAt : List Value → ℕ → Value
+valueAt values x = getD values x (boolean false)
 
-  -- v is the value chosen for an unknown
-  abbrev pub valueBy : Kind → (p x y z : ℕ) → (v : ℤ) → Value
-  valueBy BooleanConstant p x y z v = boolean (eqb x 1)
-  valueBy BooleanUnknown p x y z v = boolean (eqZ v (pos 1))
-  valueBy NaturalUnknown p x y z v = fraction v z
-  valueBy IntegerUnknown p x y z v = fraction v z
-  valueBy NumberConstant p x y z v = fraction (constantIn x y) z
-  valueBy Not p x y z v = boolean (not (is x))
-  valueBy And p x y z v = boolean (is x && is y)
-  valueBy Or p x y z v = boolean (is x || is y)
-  valueBy Implies p x y z v = boolean (not (is x) || is y)
-  valueBy Iff p x y z v = boolean (Bool·beq (is x) (is y))
-  valueBy Sum p x y z v = fraction (over (shared x y) x +ℤ over (shared x y) y) (shared x y)
-  valueBy Difference p x y z v = fraction (over (shared x y) x -ℤ over (shared x y) y) (shared x y)
-  valueBy Product p x y z v = fraction (numerator (valueAt x) *ℤ numerator (valueAt y)) (denominator (valueAt x) * denominator (valueAt y))
-  valueBy Choice p x y z v = fraction (if is x then over (shared y z) y else over (shared y z) z) (shared y z)
-  valueBy Greater p x y z v = boolean (ltZ (over (shared x y) y) (over (shared x y) x))
-  valueBy Equal p x y z v = boolean (eqZ (over (shared x y) x) (over (shared x y) y))
-
-  unfoldable pub rowVal : Fields → ℤ → Value
-  rowVal f v = valueBy (f .kind) (f .p) (f .x) (f .y) (f .z) v
+unfoldable pub rowVal : (earlier : List Value) → Fields → ℤ → Value
+rowVal earlier f v = valueBy (f .kind) (f .p) (f .x) (f .y) (f .z) (valueAt earlier (f .x)) (valueAt earlier (f .y)) (valueAt earlier (f .z)) v
 
 -- the values of all rows, after those of earlier ones; the values chosen are those of the unknowns, in row order
 abbrev pub valuesFrom : List Value → List Fields → List ℤ → List Value
