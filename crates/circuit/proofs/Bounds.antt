@@ -30,7 +30,7 @@ bound-append : (ks ls : List Lit) → bound (ks ++ ls) ≡ max (bound ks) (bound
 bound-append [] ls = omega arith
 bound-append (k ∷ ks) ls = omega (arith, bound-append ks ls)
 
-bound-snoc : (ls : List Lit) (l : Lit) → bound (ls ++ l ∷ []) ≡ max (bound ls) (suc (var l))
+pub bound-snoc : (ls : List Lit) (l : Lit) → bound (ls ++ l ∷ []) ≡ max (bound ls) (suc (var l))
 bound-snoc ls l = omega (arith, bound-append ls (l ∷ []))
 
 bound-replicate : (k : ℕ) (l : Lit) → bound (replicate k l) ≤ suc (var l)

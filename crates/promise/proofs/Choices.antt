@@ -20,7 +20,7 @@ use Rattle.sheet.specs.Acceptance.{outOfRange}
 use Rattle.sheet.specs.Steps.{ofUnknowns, bitsBy, unknownBits}
 use Rattle.sheet.proofs.Tested.{in-natural, in-integer}
 use Rattle.sheet.proofs.Counted.{bitsAsked}
-use Rattle.promise.proofs.Counts.{allAsked}
+use Rattle.sheet.proofs.Total.{allAsked}
 
 abbrev pub first : List ℤ → ℤ
 first vs = getD vs 0 (pos 0)

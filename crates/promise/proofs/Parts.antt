@@ -21,7 +21,7 @@ use Rattle.sheet.specs.Calls.{part}
 use Rattle.sheet.proofs.Accepted.{Passed, Behind, passed-behind, accepted-tells}
 use Rattle.sheet.proofs.Counted.{row-cost}
 use Rattle.promise.specs.Promise.{rowSlots, PartsAreRows}
-use Rattle.promise.proofs.Counts.{whole-table}
+use Rattle.sheet.proofs.Total.{whole-table}
 
 -- the gates of rows, then of more rows
 module _ (rest : List Fields) where

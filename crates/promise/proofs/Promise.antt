@@ -22,7 +22,7 @@ use Rattle.sheet.specs.Calls.{constraint}
 use Rattle.sheet.proofs.Accepted.{Passed, passed-many, accepted-tells}
 use Rattle.sheet.proofs.Meant.{Shows, ShowAll, show-at}
 use Rattle.promise.specs.Promise.{Carries, Promise, DemandThree}
-use Rattle.promise.proofs.Counts.{Whole, whole-table}
+use Rattle.sheet.proofs.Total.{Whole, whole-table}
 use Rattle.promise.proofs.Choices.{AllIn, within-all, all-within, all-bits-many, Ranged, Chosen}
 use Rattle.promise.proofs.Readings.{Reading, carried, model-carries}
 use Rattle.promise.proofs.Fitting.{all-wide}

@@ -20,7 +20,7 @@ use Rattle.sheet.specs.Rows.{uses}
 use Rattle.sheet.proofs.Accepted.{Passed}
 use Rattle.sheet.proofs.Counted.{CellsFor}
 use Rattle.sheet.proofs.Meant.{Shows, ShowAll, show-snoc, row-sem}
-use Rattle.promise.proofs.Counts.{Whole}
+use Rattle.sheet.proofs.Total.{Whole}
 use Rattle.promise.proofs.Choices.{first, after, AllIn, Enough, Ranged, Chosen, readAll, read-all, values-new, chosen-found}
 
 table-sem : (s : Assignment) → litTrue s truth ≡ true → (l : List Bool) (rows : List Fields) (rs : List Record) (cs : List Cell) (vs : List Value) → ShowAll s rs cs vs

@@ -3,7 +3,7 @@
 use mathlib.Core.Path.{_≡_, refl, sym, _∙_, ap, subst}
 use mathlib.Core.Bool.{Bool, true, false, not, false≢true}
 use mathlib.Core.List.{List, [], _∷_, _++_, append-assoc, append-nil}
-use Prim.Native.Nat.{ℕ, zero, suc, _+_, _-_, _/_, _%_, _≤_, _<_}
+use Prim.Native.Nat.{ℕ, zero, suc, _+_, _*_, _-_, _/_, _%_, _≤_, _<_}
 use native.Mathlib.Omega.{arith}
 use lib.Dec.{eqb, ltb}
 use lib.ListN.{length, take, drop, length-append}
@@ -12,6 +12,7 @@ use Rattle.whole.specs.Tests.{if_then_else_}
 use Rattle.circuit.specs.declared.Counts.{Counts}
 use Rattle.circuit.specs.Counting.{_⊕_, theFirst, theLast}
 use Rattle.sheet.specs.declared.Kind.{Kind}
+use Rattle.sheet.specs.declared.Kind.the-variants.{BooleanConstant, BooleanUnknown, NaturalUnknown, IntegerUnknown, NumberConstant, Not, And, Or, Implies, Iff, Sum, Difference, Product, Choice, Greater, Equal}
 use Rattle.sheet.specs.declared.Fields.{Fields}
 use Rattle.sheet.specs.declared.Reading.{Reading}
 use Rattle.sheet.specs.declared.Reading.the-variants.{Read, Refused}
@@ -52,13 +53,36 @@ pub record Passes (earlier : List Record) (first : ℕ) (f : Fields) (r : Record
   pub isRecord : r ≡ recordBy first (planFor earlier f)
   pub isCounts : k ≡ planFor earlier f .counts
 
+-- no row is wider than its places in the map
+plan-narrow : (k : Kind) (p x y z : ℕ) (a b c : Record) → planBy k p x y z a b c .widest ≤ 48 → planBy k p x y z a b c .width ≤ 48
+plan-narrow BooleanConstant p x y z a b c h = h
+plan-narrow BooleanUnknown p x y z a b c h = h
+plan-narrow NaturalUnknown p x y z a b c h = h
+plan-narrow IntegerUnknown p x y z a b c h = h
+plan-narrow NumberConstant p x y z a b c h = h
+plan-narrow Not p x y z a b c h = h
+plan-narrow And p x y z a b c h = h
+plan-narrow Or p x y z a b c h = h
+plan-narrow Implies p x y z a b c h = h
+plan-narrow Iff p x y z a b c h = h
+plan-narrow Sum p x y z a b c h = h
+plan-narrow Difference p x y z a b c h = h
+plan-narrow Product p x y z a b c h = h
+plan-narrow Choice p x y z a b c h = h
+plan-narrow Greater p x y z a b c h = omega arith
+plan-narrow Equal p x y z a b c h = omega arith
+
+pub passes-narrow : {earlier : List Record} {first : ℕ} {f : Fields} {r : Record} {k : Counts} → Passes earlier first f r k → r .width ≤ 48
+passes-narrow {earlier} {f = f} p =
+    rw (p .isRecord) (plan-narrow (f .kind) (f .p) (f .x) (f .y) (f .z) (recordAt earlier (f .x)) (recordAt earlier (f .y)) (recordAt earlier (f .z)) (p .widest))
+
 -- rows that pass one after the other, to the records and the counts of all
 abbrev pub Passed : List Record → Counts → List Fields → List Record → Counts → Type 0
 Passed earlier so [] records total = (earlier ≡ records) × (so ≡ total)
 Passed earlier so (f ∷ rows) records total = (r : Record) × (k : Counts) × Passes earlier (so .slots) f r k × Passed (earlier ++ r ∷ []) (so ⊕ k) rows records total
 
 -- the records before a row stand at the front of all
-passed-front : (rows : List Fields) (rs : List Record) (so : Counts) (records : List Record) (total : Counts) → Passed rs so rows records total → (rest : List Record) × (records ≡ rs ++ rest)
+pub passed-front : (rows : List Fields) (rs : List Record) (so : Counts) (records : List Record) (total : Counts) → Passed rs so rows records total → (rest : List Record) × (records ≡ rs ++ rest)
 passed-front [] rs so records total p = ([], sym (p .0) ∙ sym (append-nil rs))
 passed-front (f ∷ rows) rs so records total p =
     let (rest, e) = passed-front rows (rs ++ p .0 ∷ []) (so ⊕ p .1) records total (p .3) in
@@ -199,9 +223,13 @@ pub record IsAccepted (table : List ℕ) (sheet : Sheet) : Type 0 where
   pub many : length (sheet .records) ≡ length table / 8
   pub some : 0 < length (sheet .records)
   pub ends : eqb (sortAt (sheet .records) (length (sheet .records) - 1)) 1 ≡ false
+  pub read : sheet .rows ≡ rowsOf (length table / 8) table
+  pub bytes : length table ≡ 8 * length (sheet .records)
+  pub few : length (sheet .records) ≤ 256
 
-walked-accepted : (table : List ℕ) (sheet : Sheet) → Walked table [] theFirst (rowsOf (length table / 8) table) (length table / 8) sheet → 0 < length table / 8 → IsAccepted table sheet
-walked-accepted table sheet w h =
+walked-accepted : (table : List ℕ) (sheet : Sheet) → Walked table [] theFirst (rowsOf (length table / 8) table) (length table / 8) sheet → 0 < length table / 8
+    → length table % 8 ≡ 0 → length table / 8 ≤ 256 → IsAccepted table sheet
+walked-accepted table sheet w h eights small =
     let many : length (sheet .records) ≡ length table / 8 = w .many ∙ omega arith in
     let rows : sheet .rows ≡ rowsOf (length table / 8) table = w .read ∙ ap (λ (n : ℕ). rowsOf n table) many in
     record {
@@ -211,6 +239,9 @@ walked-accepted table sheet w h =
       many = many;
       some = omega arith;
       ends = w .ends;
+      read = rows;
+      bytes = omega (arith, many);
+      few = omega (arith, many);
     }
 
 pub accepted-tells : (table : List ℕ) (sheet : Sheet) → accept table ≡ accepted sheet → IsAccepted table sheet
@@ -219,4 +250,5 @@ accepted-tells table sheet e =
     let filled = not-refused (eqb (length table) 0) _ _ _ e in
     let whole = not-refused (not (eqb (length table % 8) 0)) _ _ _ (filled .1) in
     let few = not-refused (ltb 256 (length table / 8)) _ _ _ (whole .1) in
-    walked-accepted table sheet (walk-tells table (length table / 8) [] theFirst table sheet (few .1)) (at-least-one (length table) (filled .0) (whole .0))
+    walked-accepted table sheet (walk-tells table (length table / 8) [] theFirst table sheet (few .1)) (at-least-one (length table) (filled .0) (whole .0)) (eqb-true (length table % 8) 0 (not-false (eqb (length table % 8) 0) (whole .0)))
+    (ltb-false 256 (length table / 8) (few .0))

@@ -1,13 +1,13 @@
 -- Row by row: a row's literals have the width of its record, and the variables, clauses and slots that its steps make are those
 -- that acceptance counts. Assumes nothing.
-use mathlib.Core.Path.{_≡_, refl, sym, ap₂, subst₂}
+use mathlib.Core.Path.{_≡_, refl, sym, ap, ap₂, subst₂}
 use mathlib.Core.Bool.{Bool, true, false}
 use mathlib.Core.List.{List, [], _∷_, _++_}
 use Prim.Native.Nat.{ℕ, zero, suc, _*_, _/_, _≤_, _<_}
 use native.Mathlib.Omega.{arith}
 use native.Mathlib.Numerals.{add-one}
 use lib.Dec.{eqb}
-use lib.ListN.{getD}
+use lib.ListN.{length, getD}
 use Rattle.whole.specs.Divisors.{lcm}
 use Rattle.circuit.specs.declared.Counts.{Counts}
 use Rattle.circuit.specs.Literals.{Lit, neg, falsity, known}
@@ -49,6 +49,12 @@ cells-snoc n m [] (d ∷ cs) r c h a b = absurd a
 cells-snoc n m (q ∷ rs) [] r c h a b = absurd a
 cells-snoc n m (q ∷ rs) (d ∷ cs) r c h a b = (cell-up h (a .0), cells-snoc n m rs cs r c h (a .1) b)
 
+pub cells-many : (n : ℕ) (rs : List Record) (cs : List Cell) → CellsFor n rs cs → length cs ≡ length rs
+cells-many n [] [] a = refl
+cells-many n [] (c ∷ cs) a = absurd a
+cells-many n (r ∷ rs) [] a = absurd a
+cells-many n (r ∷ rs) (c ∷ cs) a = ap suc (cells-many n rs cs (a .1))
+
 -- the bits of unknowns that a row asks for
 abbrev pub bitsAsked : Uses → (p : ℕ) → ℕ
 bitsAsked aFlag p = 0
@@ -67,7 +73,7 @@ first-named n h [] b = h
 first-named n h (l ∷ ls) b = omega arith
 
 module _ (n : ℕ) (h : 0 < n) where
-  cell-at : (rs : List Record) (cs : List Cell) → CellsFor n rs cs → (x : ℕ) → CellFor n (recordAt rs x) (cellAt cs x)
+  pub cell-at : (rs : List Record) (cs : List Cell) → CellsFor n rs cs → (x : ℕ) → CellFor n (recordAt rs x) (cellAt cs x)
   cell-at [] [] a zero = record { lits = omega arith; some = omega arith; under = refl }
   cell-at [] [] a (suc x) = record { lits = omega arith; some = omega arith; under = refl }
   cell-at [] (c ∷ cs) a x = absurd a

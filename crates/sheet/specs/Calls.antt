@@ -8,6 +8,8 @@ use lib.IntN.{ℤ}
 use Rattle.whole.specs.Bits.{bit}
 use Rattle.circuit.specs.Literals.{Assignment, clauseTrue}
 use Rattle.sheet.specs.declared.Record.{Record}
+use Rattle.sheet.specs.declared.Measured.{Measured}
+use Rattle.sheet.specs.declared.Measured.the-variants.{Counted, Refused}
 use Rattle.sheet.specs.Values.{numerator, truthOf, valueAt, rowValues, unknowns, eachInBits}
 use Rattle.sheet.specs.Acceptance.{Outcome, refused, accepted, recordAt, Sheet, accept}
 use Rattle.sheet.specs.Steps.{clauses, settings, extension}
@@ -142,3 +144,8 @@ module _ {A : Type 0} where
   abbrev pub placeOf : Outcome A → ℕ
   placeOf (refused n p) = p
   placeOf (accepted a) = 0
+
+-- measuring answers what an accepted table counts
+abbrev pub measuring : Outcome Sheet → Measured
+measuring (refused n p) = Refused n p
+measuring (accepted sheet) = Counted (sheet .counts)

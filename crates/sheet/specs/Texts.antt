@@ -11,6 +11,10 @@ use lib.IntN.{ℤ, pos, natAbs}
 use lib.Signed.{ltZ}
 use Rattle.whole.specs.Tests.{if_then_else_}
 use Rattle.sheet.specs.declared.Fields.{Fields}
+use Rattle.sheet.specs.declared.LinesRead.{LinesRead}
+use Rattle.sheet.specs.declared.LinesRead.the-variants.{Read, Refused}
+use Rattle.sheet.specs.declared.ClaimRead.{ClaimRead}
+use Rattle.sheet.specs.declared.ClaimRead.the-variants.{Model, NoneClaimed, Refused as ClaimRefused}
 use Rattle.sheet.specs.Rows.{uses, isUnknown}
 use Rattle.sheet.specs.Values.{Value, numerator, denominator}
 use Rattle.sheet.specs.Acceptance.{Outcome, refused, accepted, Sheet}
@@ -158,3 +162,18 @@ unfoldable pub readClaim : (variables : ℕ) → List ℕ → (modelRoom : ℕ) 
 readClaim variables text modelRoom = do
   refuse 18 unless variables fit modelRoom
   claimIn variables text
+
+-- what the two readers answer, with document 01's number and place at a refusal
+abbrev pub linesAnswer : Outcome Lines → LinesRead
+linesAnswer (refused number place) = Refused number place
+linesAnswer (accepted l) = Read (record { rows = l .rows; rest = l .rest; ended = l .ended })
+
+abbrev pub claimAnswer : Outcome Claim → ClaimRead
+claimAnswer (refused number place) = ClaimRefused number place
+claimAnswer (accepted noneClaimed) = NoneClaimed
+claimAnswer (accepted (model bs)) = Model
+
+-- what the reader of the solver's text writes: a byte a variable, and nothing where no model is claimed
+abbrev pub modelBytes : Claim → List ℕ
+modelBytes noneClaimed = []
+modelBytes (model bs) = bs

@@ -57,3 +57,29 @@ pub enum Verdict {
     Pass(Record, Counts),
     Stop(u32),
 }
+
+// What measuring answers: what the table counts, or its refusal's number and place.
+pub enum Measured {
+    Counted(Counts),
+    Refused(u32, u32),
+}
+
+// What a reader of lines found: how many rows, where the text behind them begins, and whether an empty line ended them.
+pub struct LinesFound {
+    pub rows: u32,
+    pub rest: usize,
+    pub ended: bool,
+}
+
+// The answer of a reader of lines; a refusal has its number and place.
+pub enum LinesRead {
+    Read(LinesFound),
+    Refused(u32, u32),
+}
+
+// The answer of the reader of the solver's text; a model's bytes are in the buffer that was lent.
+pub enum ClaimRead {
+    Model,
+    NoneClaimed,
+    Refused(u32, u32),
+}
