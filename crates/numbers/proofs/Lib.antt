@@ -1,0 +1,3 @@
+-- Laws of the functions on numbers. Assumes nothing.
+pub mod Euclid
+pub mod Digits

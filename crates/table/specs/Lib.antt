@@ -1,0 +1,2 @@
+-- What is surveyed of a table. Assumes nothing.
+pub mod Surveys
