@@ -1,0 +1,2 @@
+-- The adder's turns. Assumes nothing.
+pub mod Turns

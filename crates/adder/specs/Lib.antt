@@ -1,0 +1,2 @@
+-- What the adder's contracts say. Assumes nothing.
+pub mod Adding

@@ -1,0 +1,2 @@
+-- The turns of choice. Assumes nothing.
+pub mod Turns

@@ -1,0 +1,2 @@
+-- What the contract of choice says. Assumes nothing.
+pub mod Choosing

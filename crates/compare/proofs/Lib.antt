@@ -1,0 +1,2 @@
+-- The turns of the comparisons. Assumes nothing.
+pub mod Turns

@@ -1,0 +1,2 @@
+-- What the contracts of the comparisons say. Assumes nothing.
+pub mod Comparing

@@ -1,0 +1,3 @@
+-- Laws of widening and of constants' bits. Assumes nothing.
+pub mod Widening
+pub mod Constants

@@ -1,0 +1,2 @@
+-- Laws of numbers brought to one width. Assumes nothing.
+pub mod Widened

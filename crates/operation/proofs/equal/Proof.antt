@@ -1,0 +1,58 @@
+-- `operation::equal` meets its contract. Assumes nothing.
+use mathlib.Core.Path.{_≡_}
+use Prim.Native.Nat.{_≤_}
+use borrow.Author.Needs.{needs}
+use native.Mathlib.Omega.{arith}
+use lib.ListN.{length}
+use Rattle.circuit.specs.Numbers.{equal}
+use Rattle.frame.specs.Literals.{literalsIn}
+use Rattle.compare.specs.Comparing.{matching}
+use Rattle.operation.proofs.Widened.{equal-is}
+use Rattle.operation.proofs.equal.Statement.{statement}
+use Rattle.operation.proofs.equal.Tie as tie
+
+-- a number's array has 48 places
+long : (s : tie.Start) → (s .args .x .width ≤ length (s .args .x .bits)) × (s .args .y .width ≤ length (s .args .y .bits))
+long s = (long-x s, long-y s)
+  where
+    long-x : (s : tie.Start) → s .args .x .width ≤ length (s .args .x .bits)
+    long-x s = let l : length (s .args .x .bits) ≡ 48 = search needs in omega arith
+
+    long-y : (s : tie.Start) → s .args .y .width ≤ length (s .args .y .bits)
+    long-y s = let l : length (s .args .y .bits) ≡ 48 = search needs in omega arith
+
+-- the circuit, on the numbers brought to one width
+same : (e : tie.After-widen2) → equal (literalsIn (e .before .before .before .args .x)) (literalsIn (e .before .before .before .args .y))
+    ≡ matching (e .before .widen .result) (e .widen2 .result) (e .before .before .larger .result)
+same e =
+    let m = e .before .before in
+    let s = m .before in
+    equal-is (s .args .x) (s .args .y) (long s .0) (long s .1) (m .larger .result) (e .before .widen .result) (e .widen2 .result) (e .before .widen .ensures .0) (e .widen2 .ensures .0) (m .larger .ensures)
+
+larger-requires : tie.Need-larger-requires
+larger-requires c κs = search needs
+
+widen-requires : tie.Need-widen-requires
+widen-requires c κs = search needs
+
+widen-requires-2 : tie.Need-widen-requires-2
+widen-requires-2 c κs = search needs
+
+equal-requires : tie.Need-equal-requires
+equal-requires c κs =
+    let e = c .before in
+    let s = e .before .before .before in
+    (omega arith, (e .before .widen .ensures .1, (e .widen2 .ensures .1, rw (same e) at (s .pre .1 .1))))
+
+same-length : tie.Need-same-length
+same-length c = search needs
+
+returns : tie.Need-returns
+returns c =
+    let p = c .before in
+    rw (same (p .before .before)) (p .equal .ensures)
+
+pub equal-spec : {M : Type 1} → statement M
+equal-spec =
+    tie.close
+    (tie.spec larger-requires widen-requires widen-requires-2 equal-requires same-length returns)

@@ -1,0 +1,2 @@
+-- The product's turns. Assumes nothing.
+pub mod Turns

@@ -1,0 +1,2 @@
+-- What the contracts of the product say. Assumes nothing.
+pub mod Multiplying
