@@ -1,0 +1,2 @@
+-- What Boolean rows make: one literal. Assumes nothing.
+pub mod Lone

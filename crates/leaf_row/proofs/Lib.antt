@@ -1,0 +1,2 @@
+-- The variables of unknowns. Assumes nothing.
+pub mod Fresh

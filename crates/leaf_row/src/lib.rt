@@ -1,0 +1,84 @@
+// Rows of numbers that refer to no other: unknowns and constants. They write no clauses.
+ghost use mathlib.Core.Path.{_≡_};
+ghost use mathlib.Core.List.{map, _++_};
+ghost use Prim.Native.Nat.{ℕ, _+_, _-_, _≤_, _<_};
+ghost use lib.IntN.{negsuc};
+ghost use lib.ListN.{replicate};
+ghost use Rattle.circuit.specs.Literals.{slot};
+ghost use Rattle.circuit.specs.Circuits.{ret, out};
+ghost use Rattle.circuit.specs.Numbers.{unknown, constant};
+ghost use Rattle.sheet.specs.Rows.{constantIn};
+ghost use Rattle.sheet.specs.Steps.{numberCell, withSign};
+ghost use Rattle.frame.specs.Literals.{slotsIn, IsNumber};
+ghost use Rattle.literal_map.specs.Rows.{RowKnown};
+use frame::Made;
+use frame::Number;
+
+// p new variables, and falsity behind them.
+fn variables(first: u32, p: usize) -> [i32; 48]
+    requires { ⌜ p ≤ 48 ⌝ ∗ ⌜ first + p < 2147483648 ⌝ }
+    ensures { λ r. ⌜ r ≡ map slot (out first (unknown p)) ++ replicate (48 - p) (negsuc 0) ⌝ }
+{
+    let mut bits = [-1; 48];
+    let mut next = first;
+    let mut i = 0;
+    while i < p {
+        let l = gate::fresh(next);
+        bits[i] = l;
+        next += 1;
+        i += 1;
+    }
+    bits
+}
+
+pub fn integer(from: usize, first: u32, p: u8) -> Made
+    requires { ⌜ 1 ≤ p ⌝ ∗ ⌜ p ≤ 48 ⌝ ∗ ⌜ first + p < 2147483648 ⌝ }
+    ensures { λ r. ⌜ ((z : ℕ) → RowKnown from first (numberCell z (unknown p)) r) ⌝ }
+{
+    let width = p as usize;
+    let bits = variables(first, width);
+    let number = Number { bits, width };
+    Made {
+        number,
+        at: from,
+        next: first + (p as u32),
+    }
+}
+
+// A natural's sign is falsity.
+pub fn natural(from: usize, first: u32, p: u8) -> Made
+    requires { ⌜ p + 1 ≤ 48 ⌝ ∗ ⌜ first + p < 2147483648 ⌝ }
+    ensures { λ r. ⌜ ((z : ℕ) → RowKnown from first (numberCell z (withSign (unknown p))) r) ⌝ }
+{
+    let bits = variables(first, p as usize);
+    let number = Number {
+        bits,
+        width: (p as usize) + 1,
+    };
+    Made {
+        number,
+        at: from,
+        next: first + (p as u32),
+    }
+}
+
+// The number whose halves are x and y, in two's complement.
+fn halves(x: u16, y: u16) -> Number
+    ensures { λ r. ⌜ slotsIn r ≡ map slot (constant (constantIn x y)) ⌝ ∗ ⌜ IsNumber r ⌝ }
+{
+    let word = (x as u32) * 65536 + (y as u32);
+    if word < 0x8000_0000 {
+        return literals::constant(word, false);
+    }
+    literals::constant(0xffff_ffff - word, true)
+}
+
+pub fn constant(from: usize, first: u32, x: u16, y: u16) -> Made
+    ensures { λ r. ⌜ ((z : ℕ) → RowKnown from first (numberCell z (ret (constant (constantIn x y)))) r) ⌝ }
+{
+    Made {
+        number: halves(x, y),
+        at: from,
+        next: first,
+    }
+}

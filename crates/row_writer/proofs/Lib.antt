@@ -1,0 +1,2 @@
+-- What the limits of a row tell. Assumes nothing.
+pub mod Limits

@@ -1,0 +1,2 @@
+-- A row that is ready to be written. Assumes nothing.
+pub mod Ready

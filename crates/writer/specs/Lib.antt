@@ -1,0 +1,2 @@
+-- A table that is accepted and has room. Assumes nothing.
+pub mod Accepted

@@ -1,0 +1,52 @@
+// Rows to clauses: one row after the other, its slots behind those before it, its literals into the map.
+ghost use mathlib.Core.Path.{_≡_};
+ghost use Prim.Native.Nat.{_+_, min};
+ghost use lib.ListN.{length};
+ghost use Rattle.sheet.specs.Rows.{rowsOf};
+ghost use Rattle.sheet.specs.Steps.{mapFor};
+ghost use Rattle.frame.specs.Frame.{front, over};
+ghost use Rattle.writer.specs.Accepted.{Accepted, rowSlots};
+use sheet::Reading;
+use sheet::Record;
+
+// Where row x stands among the records, if it is one of the r rows before; else at r.
+fn place(x: u16, r: usize) -> usize
+    ensures { λ i. ⌜ i ≡ min x r ⌝ }
+{
+    let i = x as usize;
+    if i < r { i } else { r }
+}
+
+// The rows of an accepted table; answers where their slots end.
+pub fn write_rows(
+    table: &[u8],
+    rows: usize,
+    records: [Record; 256],
+    map: &mut [i32],
+    slots: &mut [i32],
+) -> usize
+    requires { ⌜ Accepted (now table) rows records (length (now map)) (length (now slots)) ⌝ }
+    ensures slots { λ at. ⌜ now (slots .exit) ≡ over 2 (rowSlots rows (now (table .entry))) (now (slots .entry)) ⌝ ∗ ⌜ at ≡ 2 + length (rowSlots rows (now (table .entry))) ⌝ }
+    ensures map { λ _. ⌜ now (map .exit) ≡ front (mapFor (rowsOf rows (now (table .entry)))) (now (map .entry)) ⌝ }
+{
+    let mut at = 2;
+    let mut next = 1;
+    let mut r = 0;
+    while r < rows {
+        let start = 8 * r;
+        let end = start + 8;
+        let Reading::Read(f) = row::read_row(&table[start..end]) else {
+            return at;
+        };
+        let x = place(f.x, r);
+        let y = place(f.y, r);
+        let z = place(f.z, r);
+        let o = literal_map::refer_all(map, r, f, records[x], records[y], records[z]);
+        let made = row_writer::write_row(slots, at, next, f, o.a, o.b, o.c);
+        literal_map::store(map, r, made.number);
+        at = made.at;
+        next = made.next;
+        r += 1;
+    }
+    at
+}
