@@ -1,0 +1,2 @@
+-- Laws of numerators in 64 bits. Assumes nothing.
+pub mod Words

@@ -1,0 +1,2 @@
+-- What literals read as under a model. Assumes nothing.
+pub mod Readings

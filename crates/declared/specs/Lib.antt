@@ -1,0 +1,2 @@
+-- What is asked of p. Assumes nothing.
+pub mod Declared
