@@ -1,0 +1,3 @@
+-- Laws of the reader of lines. Assumes nothing.
+pub mod Laws
+pub mod Answers

@@ -1,0 +1,2 @@
+-- What the reader of lines promises of its answer besides the paper's. Assumes nothing.
+pub mod Found

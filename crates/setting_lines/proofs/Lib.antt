@@ -1,0 +1,3 @@
+-- Laws of the printer of settings. Assumes nothing.
+pub mod Rows
+pub mod Settings

@@ -1,0 +1,2 @@
+-- What the printer of settings promises. Assumes nothing.
+pub mod Settings

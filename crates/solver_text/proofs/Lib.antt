@@ -1,0 +1,6 @@
+-- Laws of the reader of the solver's text. Assumes nothing.
+pub mod Passing
+pub mod Variables
+pub mod Claims
+pub mod Answers
+pub mod Printed
