@@ -35,9 +35,9 @@ writing-tells table r m s sheet e =
     checking-tells table r a checks ∙ not-refused 13 (a .counts .slots) (ltb s (a .counts .slots)) rest₁ .1
 
 -- a model that decoding accepts is of the sheet's length and makes every clause true
-record Decoded (table model : List ℕ) (sheet : Sheet) : Type 0 where
-  isSheet : accept table ≡ accepted sheet
-  sized : length model ≡ sheet .counts .variables
+pub record Decoded (table model : List ℕ) (sheet : Sheet) : Type 0 where
+  pub isSheet : accept table ≡ accepted sheet
+  pub sized : length model ≡ sheet .counts .variables
 
 decodable-tells : (table : List ℕ) (r m s : ℕ) (model : List ℕ) (v : ℕ) (sheet : Sheet) → decodable table r m s model v ≡ accepted sheet → Decoded table model sheet
 unfolding decodable
@@ -51,7 +51,7 @@ decodable-tells table r m s model v sheet e =
     let e : a ≡ sheet = cc in
     record { isSheet = writing-tells table r m s a writes ∙ same; sized = eqb-true (length model) many (not-false (eqb (length model) many) sized) ∙ ap (λ (x : Sheet). x .counts .variables) e }
 
-decoding-tells : (table : List ℕ) (r m s : ℕ) (model : List ℕ) (v : ℕ) (sheet : Sheet) → decoding table r m s model v ≡ accepted sheet
+pub decoding-tells : (table : List ℕ) (r m s : ℕ) (model : List ℕ) (v : ℕ) (sheet : Sheet) → decoding table r m s model v ≡ accepted sheet
     → Decoded table model sheet × (allTrue (assigned model) (clauses (sheet .rows)) ≡ true)
 unfolding decoding
 decoding-tells table r m s model v sheet e =
@@ -78,7 +78,7 @@ settings-meet-the-sheet table r m s model v sheet e =
 
 -- ---- the model that extending gives
 
-bits-back : (s : Assignment) → assigned (map bit s) ≡ s
+pub bits-back : (s : Assignment) → assigned (map bit s) ≡ s
 bits-back [] = refl
 bits-back (true ∷ s) = ap (λ (l : List Bool). true ∷ l) (bits-back s)
 bits-back (false ∷ s) = ap (λ (l : List Bool). false ∷ l) (bits-back s)

@@ -44,7 +44,7 @@ enough-next true f fs vs e = length-drop 1 vs ∙ omega arith
 enough-next false f fs vs e = e
 
 -- a row that asks for none has no bits to leave
-no-bits : (u : Uses) (p : ℕ) (v : ℤ) → isUnknown u ≡ false → inBits u p v ≡ true
+pub no-bits : (u : Uses) (p : ℕ) (v : ℤ) → isUnknown u ≡ false → inBits u p v ≡ true
 no-bits aFlag p v e = refl
 no-bits aBoolean p v e = absurd (false≢true (sym e))
 no-bits aNatural p v e = absurd (false≢true (sym e))

@@ -22,7 +22,7 @@ use Rattle.sheet.proofs.Widths.{Holds, AllHold, allHold-snoc, hold-at, pair-fit
 use Rattle.promise.specs.Promise.{broughtBy, FitsRow, FitBoth, Wide}
 use Rattle.promise.proofs.Choices.{first, after, AllIn}
 
-table-fits : (rows : List Fields) (rs : List Record) (vs : List Value) → AllHold rs vs → (so : Counts) (records : List Record) (total : Counts) → Passed rs so rows records total
+pub table-fits : (rows : List Fields) (rs : List Record) (vs : List Value) → AllHold rs vs → (so : Counts) (records : List Record) (total : Counts) → Passed rs so rows records total
     → (values : List ℤ) → AllIn rows values → AllHold records (valuesFrom vs rows values)
 table-fits [] rs vs h so records total p values a = subst (λ (r : List Record). AllHold r vs) (p .0) h
 table-fits (f ∷ rows) rs vs h so records total p values a =

@@ -6,3 +6,6 @@ pub mod Fitting
 pub mod Parts
 pub mod Promise
 pub mod Assessor
+pub mod Outcomes
+pub mod Evaluated
+pub mod Across

@@ -1,7 +1,7 @@
 -- Each row's part of the slots, by its record's first slot and number of slots, is what the row's own steps write. Assumes nothing.
-use mathlib.Core.Path.{_≡_, sym, _∙_, ap, subst}
+use mathlib.Core.Path.{_≡_, refl, sym, _∙_, ap, subst}
 use mathlib.Core.List.{List, [], _∷_, _++_, append-assoc}
-use Prim.Native.Nat.{ℕ, _+_, _<_}
+use Prim.Native.Nat.{ℕ, zero, suc, _+_, _≤_, _<_}
 use native.Mathlib.Omega.{arith}
 use lib.IntN.{ℤ}
 use lib.ListN.{length, length-append}
@@ -15,7 +15,7 @@ use Rattle.circuit.proofs.Costs.{State}
 use Rattle.circuit.proofs.Lengths.{slotsOf-append, clausesFrom-append, gates-bind, out-bind, cost-sound}
 use Rattle.sheet.specs.declared.Fields.{Fields}
 use Rattle.sheet.specs.declared.Record.{Record}
-use Rattle.sheet.specs.Acceptance.{missing, recordAt, accepted, Sheet}
+use Rattle.sheet.specs.Acceptance.{missing, recordAt, accepted, Sheet, accept}
 use Rattle.sheet.specs.Steps.{Cell, rowSteps, stepsFrom, steps, cells, clausesButLast, lastClause, clauses, slotsFor}
 use Rattle.sheet.specs.Calls.{part}
 use Rattle.sheet.proofs.Accepted.{Passed, Behind, passed-behind, accepted-tells}
@@ -110,8 +110,42 @@ module _ (before : List Fields) (f : Fields) (behind : List Fields) (records : L
       let row = rowSlots before f in
       rw (record-is, split-slots before f behind, drop-at first (row ++ _) (b .own .first) first-is) (take-at row _ (b .own .slots) slots-are)
 
+  inside : b .own .first + b .own .slots ≤ length (slotsFor (before ++ f ∷ behind))
+  inside = within (slotsOf (clausesFrom 0 (gates 0 (steps before)))) (rowSlots before f) _ (split-slots before f behind) first-is slots-are
+    where
+      within : (us vs ws : List ℤ) {all : List ℤ} {m n : ℕ} → all ≡ us ++ (vs ++ ws) → length us ≡ m → length vs ≡ n → m + n ≤ length all
+      within us vs ws e f g = omega (arith, ap length e, length-append us (vs ++ ws), length-append vs ws)
+
 pub parts-are-rows : PartsAreRows
 parts-are-rows table sheet e before f behind same =
     let a = accepted-tells table sheet e in
     let b = passed-behind before f behind (sheet .records) (a .total) (subst (λ (rows : List Fields). Passed [] theFirst rows (sheet .records) (a .total)) same (a .passed)) in
     rw same (part-is before f behind (sheet .records) b)
+
+-- a list where place i stands
+module _ {A : Type 0} where
+  pub record At (l : List A) (i : ℕ) : Type 0 where
+    pub before : List A
+    pub here : A
+    pub behind : List A
+    pub split : l ≡ before ++ here ∷ behind
+    pub place : length before ≡ i
+
+  at : (l : List A) (i : ℕ) → i < length l → At l i
+  at [] i h = absurd (omega arith)
+  at (x ∷ l) zero h = record { before = []; here = x; behind = l; split = refl; place = refl }
+  at (x ∷ l) (suc i) h =
+      let a = at l i (omega arith) in
+      record { before = x ∷ a .before; here = a .here; behind = a .behind; split = ap (λ (m : List A). x ∷ m) (a .split); place = ap suc (a .place) }
+
+-- a row's part ends where the slots end, or before
+pub part-inside : (table : List ℕ) (sheet : Sheet) → accept table ≡ accepted sheet → (i : ℕ) → i < length (sheet .rows)
+    → recordAt (sheet .records) i .first + recordAt (sheet .records) i .slots ≤ length (slotsFor (sheet .rows))
+part-inside table sheet e i h = by (at (sheet .rows) i h)
+  where
+    by : At (sheet .rows) i → recordAt (sheet .records) i .first + recordAt (sheet .records) i .slots ≤ length (slotsFor (sheet .rows))
+    by s =
+        let a = accepted-tells table sheet e in
+        let b = passed-behind (s .before) (s .here) (s .behind) (sheet .records) (a .total) (subst (λ (rows : List Fields). Passed [] theFirst rows (sheet .records) (a .total)) (s .split) (a .passed)) in
+        let own = ap (recordAt (sheet .records)) (sym (s .place)) ∙ record-is (s .before) (s .here) (s .behind) (sheet .records) b in
+        omega (arith, ap (λ (r : Record). r .first) own, ap (λ (r : Record). r .slots) own, ap (λ (l : List Fields). length (slotsFor l)) (s .split), inside (s .before) (s .here) (s .behind) (sheet .records) b)

@@ -1,16 +1,17 @@
 -- Laws of outcomes: what it tells that a call's refusals all passed by. Assumes nothing.
-use mathlib.Core.Path.{_≡_, refl, _∙_, ap}
+use mathlib.Core.Path.{_≡_, refl, sym, _∙_, ap, subst}
 use mathlib.Core.Bool.{Bool, true, false, not, _&&_}
 use mathlib.Core.List.{List, [], _∷_, map}
 use Prim.Native.Nat.{ℕ, suc, _+_}
 use native.Mathlib.Omega.{arith}
-use borrow.Author.Tests.{lt-ltb, le-ltb}
-use lib.Dec.{ltb}
+use borrow.Author.Tests.{eqb-true, lt-ltb, le-ltb, not-false}
+use lib.Dec.{eqb, ltb}
 use lib.ListN.{length}
+use lib.IntN.{ℤ}
 use Rattle.circuit.specs.Literals.{Assignment, Clause, clauseTrue, allTrue}
-use Rattle.sheet.specs.Values.{every}
-use Rattle.sheet.specs.Acceptance.{Outcome, refused, accepted}
-use Rattle.sheet.specs.Calls.{_>>=_, _>>_, refuse_at_if_, falseAt}
+use Rattle.sheet.specs.Values.{unknowns, eachInBits, every, Within}
+use Rattle.sheet.specs.Acceptance.{Outcome, refused, accepted, Sheet, accept}
+use Rattle.sheet.specs.Calls.{_>>=_, _>>_, refuse_at_if_, falseAt, unknownCount, choosing}
 
 module _ {A : Type 0} where
   refused-not : {n p : ℕ} {a : A} {X : Type 0} → refused n p ≡ accepted a → X
@@ -44,3 +45,16 @@ first-false n (false ∷ bs) = lt-ltb n (n + suc (length bs)) (omega arith)
 pub every-clause : (s : Assignment) (cs : List Clause) → every (map (clauseTrue s) cs) ≡ allTrue s cs
 every-clause s [] = refl
 every-clause s (c ∷ cs) = ap (λ (b : Bool). clauseTrue s c && b) (every-clause s cs)
+
+-- values that a table is chosen with are within their bits
+pub choosing-tells : (table : List ℕ) (values : List ℤ) {sheet : Sheet} → choosing table values ≡ accepted sheet → (accept table ≡ accepted sheet) × Within (sheet .rows) values
+unfolding choosing
+choosing-tells table values {sheet} e =
+    let (a, accepts, rest) = bound-accepts (accept table) e in
+    let many = unknownCount a in
+    let (number, rest₁) = not-refused 14 many (not (eqb (length values) many)) rest in
+    let bs = eachInBits (unknowns (a .rows)) values in
+    let (inside, same) = not-refused 15 (falseAt 0 bs) (ltb (falseAt 0 bs) (0 + length bs)) rest₁ in
+    let all : every bs ≡ true = not-false (every bs) (sym (first-false 0 bs) ∙ inside) in
+    let s : a ≡ sheet = cc in
+    (accepts ∙ same, subst (λ (x : Sheet). Within (x .rows) values) s (record { number = eqb-true (length values) many (not-false (eqb (length values) many) number); inside = all }))

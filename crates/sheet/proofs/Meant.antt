@@ -101,13 +101,13 @@ module _ (s : Assignment) (et : litTrue s truth ≡ true) where
   known-reads false = ap not et
 
   module _ (l : List Bool) (rs : List Record) (cs : List Cell) (vs : List Value) (h : ShowAll s rs cs vs) where
-    truth-at : (x : ℕ) → sortAt rs x ≡ 0 → litTrue s (lit (cellAt cs x)) ≡ truthOf (valueAt vs x)
+    pub truth-at : (x : ℕ) → sortAt rs x ≡ 0 → litTrue s (lit (cellAt cs x)) ≡ truthOf (valueAt vs x)
     truth-at x e = truth-of (recordAt rs x) (cellAt cs x) (valueAt vs x) (show-at rs cs vs h x) e
 
-    neg-at : (x : ℕ) → sortAt rs x ≡ 0 → litTrue s (neg (lit (cellAt cs x))) ≡ not (truthOf (valueAt vs x))
+    pub neg-at : (x : ℕ) → sortAt rs x ≡ 0 → litTrue s (neg (lit (cellAt cs x))) ≡ not (truthOf (valueAt vs x))
     neg-at x e = litTrue-neg s (lit (cellAt cs x)) ∙ ap not (truth-at x e)
 
-    number-at : (x : ℕ) → sortAt rs x ≡ 1 → Reads s (cellAt cs x .literals) (numerator (valueAt vs x)) × (cellAt cs x .denominator ≡ denominator (valueAt vs x))
+    pub number-at : (x : ℕ) → sortAt rs x ≡ 1 → Reads s (cellAt cs x .literals) (numerator (valueAt vs x)) × (cellAt cs x .denominator ≡ denominator (valueAt vs x))
     number-at x e = number-of (recordAt rs x) (cellAt cs x) (valueAt vs x) (show-at rs cs vs h x) e
 
     same-shared : (x y : ℕ) → sortAt rs x ≡ 1 → sortAt rs y ≡ 1 → least (cellAt cs x) (cellAt cs y) ≡ shared (valueAt vs x) (valueAt vs y)

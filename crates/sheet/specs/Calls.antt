@@ -10,9 +10,13 @@ use Rattle.circuit.specs.Literals.{Assignment, clauseTrue}
 use Rattle.sheet.specs.declared.Record.{Record}
 use Rattle.sheet.specs.declared.Measured.{Measured}
 use Rattle.sheet.specs.declared.Measured.the-variants.{Counted, Refused}
+use Rattle.sheet.specs.declared.Answer.{Answer}
+use Rattle.sheet.specs.declared.Answer.the-variants as answer
+use Rattle.sheet.specs.declared.Extended.{Extended}
+use Rattle.sheet.specs.declared.Extended.the-variants as extended
 use Rattle.sheet.specs.Values.{numerator, truthOf, valueAt, rowValues, unknowns, eachInBits}
 use Rattle.sheet.specs.Acceptance.{Outcome, refused, accepted, recordAt, Sheet, accept}
-use Rattle.sheet.specs.Steps.{clauses, settings, extension}
+use Rattle.sheet.specs.Steps.{clauses, slotsFor, mapFor, settings, extension}
 
 module _ {A B : Type 0} where
   infixl 1 _>>=_
@@ -117,6 +121,16 @@ module _ {A B : Type 0} where
   left (refused n p) written buffer = buffer
   left (accepted a) written buffer = written a ++ drop (length (written a)) buffer
 
+-- checking fills the records; writing fills the literal map and the slots too
+abbrev pub sheetRecords : Sheet → List Record
+sheetRecords sheet = sheet .records
+
+abbrev pub sheetMap : Sheet → List ℤ
+sheetMap sheet = mapFor (sheet .rows)
+
+abbrev pub sheetSlots : Sheet → List ℤ
+sheetSlots sheet = slotsFor (sheet .rows)
+
 -- evaluating writes every row's numerator, extending a byte a variable, decoding the unknowns' numerators
 abbrev pub resultsOf : List ℤ → Sheet → List ℤ
 resultsOf values sheet = map numerator (rowValues (sheet .rows) values)
@@ -149,3 +163,16 @@ module _ {A : Type 0} where
 abbrev pub measuring : Outcome Sheet → Measured
 measuring (refused n p) = Refused n p
 measuring (accepted sheet) = Counted (sheet .counts)
+
+-- what an answer says: that the call is done, or its refusal's number and place; extending says too whether the constraint is true
+abbrev pub said : Answer → Outcome (Unit {0})
+said answer.Done = accepted tt
+said (answer.Refused n p) = refused n p
+
+abbrev pub told : Extended → Outcome Bool
+told (extended.Constraint b) = accepted b
+told (extended.Refused n p) = refused n p
+
+module _ {A : Type 0} where
+  abbrev pub done : Outcome A → Outcome (Unit {0})
+  done o = o >> accepted tt

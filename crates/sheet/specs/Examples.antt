@@ -70,7 +70,7 @@ readings table vs = shown (λ sheet. map numerator (readRows sheet (extension (s
 abbrev settled : String → List ℤ
 settled text = map pos (settingsProgram (ascii "0202000000000001\n0400000000020001\n3000000000010000\n" ++ ascii text))
 
-abbrev aboveTwo : List ℕ
+abbrev pub aboveTwo : List ℕ
 aboveTwo = row 0x02 2 0 0 1 ++ number 2 1 ++ row 0x30 0 0 1 0
 
 -- true; p; a 3-bit natural n; a 3-bit integer i over 2; -3/4; not p; true and p; p or not p; p implies p; p iff p; n + i/2;

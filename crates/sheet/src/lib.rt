@@ -52,6 +52,15 @@ pub struct Record {
     pub slots: u32,
 }
 
+// What stands for a row that is not earlier: false.
+pub const MISSING: Record = Record {
+    sort: 0,
+    width: 1,
+    denominator: 1,
+    first: 0,
+    slots: 0,
+};
+
 // A row passes with its record and what it counts, or stops with its refusal.
 pub enum Verdict {
     Pass(Record, Counts),
@@ -61,6 +70,18 @@ pub enum Verdict {
 // What measuring answers: what the table counts, or its refusal's number and place.
 pub enum Measured {
     Counted(Counts),
+    Refused(u32, u32),
+}
+
+// What a call answers that writes into lent buffers.
+pub enum Answer {
+    Done,
+    Refused(u32, u32),
+}
+
+// What extending answers: whether the constraint is true of the values.
+pub enum Extended {
+    Constraint(bool),
     Refused(u32, u32),
 }
 
