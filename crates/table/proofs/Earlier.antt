@@ -14,7 +14,7 @@ use borrow.Author.Tests.{ltb-true, ltb-false}
 use Rattle.sheet.specs.declared.Record.{Record}
 use Rattle.sheet.specs.Acceptance.{missing, recordAt}
 use Rattle.judge.specs.Bounds.{InLimits}
-use Rattle.table.specs.Surveys.{blank}
+use Rattle.table.specs.Surveys.{blank, AllInLimits}
 
 -- l is z from i on
 module _ (l z : List Record) (i : ℕ) (e : drop i l ≡ drop i z) where
@@ -27,11 +27,7 @@ module _ (l z : List Record) (i : ℕ) (e : drop i l ≡ drop i z) where
 pub take-more : (l : List Record) (i : ℕ) (x : Record) → i < length l → take (i + 1) (set l i x) ≡ take i l ++ x ∷ []
 take-more l i x h = rw (add-one i) (take-suc-set l i x h)
 
-abbrev pub AllInLimits : List Record → Type 0
-AllInLimits [] = Unit {0}
-AllInLimits (r ∷ rs) = InLimits r × AllInLimits rs
-
-limits-at : (rs : List Record) (i : ℕ) → AllInLimits rs → InLimits (recordAt rs i)
+pub limits-at : (rs : List Record) (i : ℕ) → AllInLimits rs → InLimits (recordAt rs i)
 limits-at [] i s = record { width = omega arith; denominator = record { some = omega arith; most = omega arith } }
 limits-at (r ∷ rs) zero s = s .0
 limits-at (r ∷ rs) (suc i) s = limits-at rs i (s .1)

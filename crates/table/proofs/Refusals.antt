@@ -31,7 +31,7 @@ abbrev InVerdict : Verdict → Type 0
 InVerdict (Pass r k) = Unit {0}
 InVerdict (Stop n) = OneToTen n
 
-abbrev InOutcome : Outcome Sheet → Type 0
+abbrev pub InOutcome : Outcome Sheet → Type 0
 InOutcome (refused n p) = OneToTen n
 InOutcome (accepted sheet) = Unit {0}
 

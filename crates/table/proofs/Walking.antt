@@ -1,7 +1,7 @@
 -- The walk of a table, one row on and at its end. Assumes nothing.
-use mathlib.Core.Path.{_≡_}
+use mathlib.Core.Path.{_≡_, refl}
 use mathlib.Core.List.{List, [], _∷_, _++_}
-use Prim.Native.Nat.{ℕ, suc, _+_, _*_, _-_, _≤_, _<_}
+use Prim.Native.Nat.{ℕ, suc, _+_, _*_, _-_, _≤_, _<_, min}
 use native.Mathlib.Nat.{sub-self}
 use native.Mathlib.Omega.{arith}
 use lib.Dec.{eqb}
@@ -10,12 +10,15 @@ use lib.Seq.{drop-drop, getD-take, length-take-le}
 use Rattle.whole.specs.Tests.{if_then_else_}
 use Rattle.circuit.specs.declared.Counts.{Counts}
 use Rattle.circuit.specs.Counting.{_⊕_, theLast}
-use Rattle.sheet.specs.declared.Fields.{Fields}
+use Rattle.sheet.specs.declared.Reading.{Reading}
 use Rattle.sheet.specs.declared.Reading.the-variants.{Read, Refused}
 use Rattle.sheet.specs.declared.Record.{Record}
 use Rattle.sheet.specs.declared.Verdict.the-variants.{Pass, Stop}
 use Rattle.sheet.specs.Rows.{readRow, rowsOf}
-use Rattle.sheet.specs.Acceptance.{missing, recordAt, judgeBy, judge, refused, accepted, ending, walk}
+use Rattle.sheet.specs.Acceptance.{missing, recordAt, judge, refused, accepted, ending, walk}
+use Rattle.judge.specs.Bounds.{InLimits}
+use Rattle.table.specs.declared.Places.{Places}
+use Rattle.table.specs.Surveys.{placesOf, verdictBy}
 use Rattle.table.proofs.Earlier.{zeros, any-default}
 
 -- r of the rows of t are walked, with the records rs, and count so
@@ -38,16 +41,25 @@ pub walk-end : (rs : List Record) (so : Counts) (t s : List ℕ) (rows : ℕ) �
 unfolding walk
 walk-end rs so t s rows = rw sub-self
 
--- the verdict on a row, by its reading
-module _ (rs : List Record) (first : ℕ) (b : List ℕ) where
-  pub read-stop : (n : ℕ) → readRow b ≡ Refused n → judge rs first (readRow b) ≡ Stop n
-  unfolding judge
-  read-stop n e = rw e
+-- where a row refers to there is a record of the array, within the limits
+pub record Near (r : ℕ) (l : List Record) (at : Places) : Type 0 where
+  pub x : (at .x < 256) × InLimits (getD l (at .x) zeros)
+  pub y : (at .y < 256) × InLimits (getD l (at .y) zeros)
+  pub z : (at .z < 256) × InLimits (getD l (at .z) zeros)
 
-  pub read-on : (f : Fields) (r : ℕ) → length rs ≡ r → readRow b ≡ Read f
-      → judge rs first (readRow b) ≡ judgeBy r first (f .kind) (f .p) (f .x) (f .y) (f .z) (recordAt rs (f .x)) (recordAt rs (f .y)) (recordAt rs (f .z))
-  unfolding judge
-  read-on f r l e = rw (e, l)
+pub nearby : (r : ℕ) (l : List Record) (q : Reading) {at : Places} → at ≡ placesOf r q → r < 256 → ((x : ℕ) → InLimits (getD l (min x r) zeros)) → Near r l at
+nearby r l (Read f) e h k = rw e (record { x = (omega arith, k (f .x)); y = (omega arith, k (f .y)); z = (omega arith, k (f .z)) })
+nearby r l (Refused n) e h k =
+    let m : min r r ≡ r = omega arith in
+    let own : InLimits (getD l r zeros) = rw m at (k r) in
+    rw e (record { x = (h, own); y = (h, own); z = (h, own) })
+
+-- the verdict on a row as it was read, by the records that stand where it refers to
+pub judged : (rs l : List Record) (r first : ℕ) (q : Reading) {at : Places} → at ≡ placesOf r q → length rs ≡ r → ((x : ℕ) → getD l (min x r) zeros ≡ recordAt rs x)
+    → verdictBy r first q (getD l (at .x) zeros) (getD l (at .y) zeros) (getD l (at .z) zeros) ≡ judge rs first q
+unfolding judge
+judged rs l r first (Read f) e m k = rw (e, m, k (f .x), k (f .y), k (f .z))
+judged rs l r first (Refused n) e m k = refl
 
 -- the end, by the array's last row
 pub ending-at : (t : List ℕ) (l : List Record) (rows : ℕ) (so : Counts) → 0 < rows → rows ≤ length l

@@ -8,10 +8,12 @@ ghost use Rattle.sheet.specs.Acceptance as Acceptance;
 ghost use Rattle.sheet.specs.Acceptance.{accept};
 ghost use Rattle.sheet.specs.Calls.{checking, measuring};
 ghost use Rattle.counting.specs.Bounds.{Below};
-ghost use Rattle.table.specs.Surveys.{refusalOfLength, numberOfReading, numberOfVerdict, blank, asSurvey};
+ghost use Rattle.judge.specs.Bounds.{InLimits, Bounded};
+ghost use Rattle.table.specs.Surveys.{refusalOfLength, numberOfVerdict, placesOf, verdictBy, blank, asSurvey, AllInLimits, InBounds};
 use answer::Survey;
 use circuit::Counts;
 use counting::NOTHING;
+use sheet::MISSING;
 use sheet::Measured;
 use sheet::Reading;
 use sheet::Record;
@@ -19,14 +21,12 @@ use sheet::Verdict;
 
 pub mod answer;
 
-// What stands where there is no earlier row.
-const MISSING: Record = Record {
-    sort: 0,
-    width: 1,
-    denominator: 1,
-    first: 0,
-    slots: 0,
-};
+// Where three rows stand among the records.
+struct Places {
+    x: usize,
+    y: usize,
+    z: usize,
+}
 
 // Variable 1 and its unit; the unit of the last row.
 const THE_FIRST: Counts = Counts {
@@ -44,7 +44,7 @@ const THE_LAST: Counts = Counts {
 };
 
 // Where row x stands among the records: at r, where none is written yet, if it is not one of the r rows before.
-fn place(x: u16, r: usize) -> usize
+pub fn place(x: u16, r: usize) -> usize
     ensures answer { λ i. ⌜ i ≡ min x r ⌝ }
 {
     let i = x as usize;
@@ -67,16 +67,7 @@ fn refusal_of_length(n: usize) -> u32
     0
 }
 
-// The numbers of a reading's and of a verdict's refusal, 0 where there is none.
-fn number_of_reading(reading: Reading) -> u32
-    ensures answer { λ n. ⌜ n ≡ numberOfReading reading ⌝ }
-{
-    match reading {
-        Reading::Read(_) => 0,
-        Reading::Refused(n) => n,
-    }
-}
-
+// The number of a verdict's refusal, 0 where there is none.
 fn number_of_verdict(verdict: Verdict) -> u32
     ensures answer { λ n. ⌜ n ≡ numberOfVerdict verdict ⌝ }
 {
@@ -86,10 +77,36 @@ fn number_of_verdict(verdict: Verdict) -> u32
     }
 }
 
+// Where the rows that a row refers to stand, behind r others.
+fn referred(reading: Reading, r: usize) -> Places
+    ensures { λ at. ⌜ at ≡ placesOf r reading ⌝ }
+{
+    match reading {
+        Reading::Read(f) => Places {
+            x: place(f.x, r),
+            y: place(f.y, r),
+            z: place(f.z, r),
+        },
+        Reading::Refused(_) => Places { x: r, y: r, z: r },
+    }
+}
+
+// The verdict on a row as it was read, behind r others; a, b and c are the records of the rows that it refers to.
+fn verdict_on(reading: Reading, r: usize, first: u32, a: Record, b: Record, c: Record) -> Verdict
+    requires { ⌜ InLimits a ⌝ ∗ ⌜ InLimits b ⌝ ∗ ⌜ InLimits c ⌝ }
+    ensures answer { λ v. ⌜ v ≡ verdictBy r first reading a b c ⌝ }
+    ensures bounded { λ v. ⌜ Bounded v ⌝ }
+{
+    match reading {
+        Reading::Read(f) => judge::judge_row(r, first, f, a, b, c),
+        Reading::Refused(n) => Verdict::Stop(n),
+    }
+}
+
 // A table that is refused has no rows.
-fn refused(number: u32, place: u32) -> Survey
+pub fn refused(number: u32, place: u32) -> Survey
     ensures answer { λ s. ⌜ s ≡ asSurvey (Acceptance.refused number place) ⌝ }
-    ensures few { λ s. ⌜ s .rows ≤ 256 ⌝ }
+    ensures bounds { λ s. ⌜ InBounds s ⌝ }
 {
     let missing = MISSING;
     let records = [missing; 256];
@@ -104,9 +121,9 @@ fn refused(number: u32, place: u32) -> Survey
 
 // Past the last row, which must be Boolean. What is surveyed of a table are its records, so this holds of every table with these.
 fn ending(records: [Record; 256], rows: usize, so: Counts) -> Survey
-    requires { ⌜ 0 < rows ⌝ ∗ ⌜ rows ≤ 256 ⌝ ∗ ⌜ drop rows records ≡ drop rows blank ⌝ ∗ ⌜ Below 50000000 so ⌝ }
+    requires { ⌜ 0 < rows ⌝ ∗ ⌜ rows ≤ 256 ⌝ ∗ ⌜ drop rows records ≡ drop rows blank ⌝ ∗ ⌜ AllInLimits (take rows records) ⌝ ∗ ⌜ Below 49000000 so ⌝ }
     ensures answer { λ s. ⌜ ((table : List ℕ) → s ≡ asSurvey (Acceptance.ending table (take rows records) so)) ⌝ }
-    ensures few { λ s. ⌜ s .rows ≤ 256 ⌝ }
+    ensures bounds { λ s. ⌜ InBounds s ⌝ }
 {
     let last = rows - 1;
     let record = records[last];
@@ -126,7 +143,7 @@ fn ending(records: [Record; 256], rows: usize, so: Counts) -> Survey
 // A table's refusal, or the records of its rows and what it counts: the rows one by one, until one stops.
 pub fn survey(table: &[u8]) -> Survey
     ensures answer { λ s. ⌜ s ≡ asSurvey (accept (now (table .entry))) ⌝ }
-    ensures few { λ s. ⌜ s .rows ≤ 256 ⌝ }
+    ensures bounds { λ s. ⌜ InBounds s ⌝ }
 {
     let n = refusal_of_length(table.len());
     if n != 0 {
@@ -141,13 +158,11 @@ pub fn survey(table: &[u8]) -> Survey
         let start = 8 * r;
         let end = start + 8;
         let reading = row::read_row(&table[start..end]);
-        let Reading::Read(f) = reading else {
-            return refused(number_of_reading(reading), r as u32);
-        };
-        let x = place(f.x, r);
-        let y = place(f.y, r);
-        let z = place(f.z, r);
-        let verdict = judge::judge_row(r, so.slots, f, records[x], records[y], records[z]);
+        let at = referred(reading, r);
+        let x = at.x;
+        let y = at.y;
+        let z = at.z;
+        let verdict = verdict_on(reading, r, so.slots, records[x], records[y], records[z]);
         let Verdict::Pass(record, counts) = verdict else {
             return refused(number_of_verdict(verdict), r as u32);
         };
@@ -173,7 +188,7 @@ pub fn measure(table: &[u8]) -> Measured
 // The survey of a table whose records are to fit so many lent ones.
 pub fn check_core(table: &[u8], room: usize) -> Survey
     ensures answer { λ s. ⌜ s ≡ asSurvey (checking (now (table .entry)) room) ⌝ }
-    ensures few { λ s. ⌜ s .rows ≤ 256 ⌝ }
+    ensures bounds { λ s. ⌜ InBounds s ⌝ }
 {
     let s = survey(table);
     if s.number != 0 {

@@ -5,12 +5,18 @@ use native.Mathlib.Omega.{arith}
 use lib.ListN.{length}
 use lib.Seq.{length-take-le}
 use borrow.Author.Tests.{eq-eqb, ne-eqb}
+use Rattle.circuit.specs.Counting.{theLast}
+use Rattle.counting.specs.Bounds.{Below}
+use Rattle.counting.proofs.Bounds.{plus-below}
 use Rattle.table.specs.Surveys.{blank}
 use Rattle.table.proofs.Earlier.{filled}
 use Rattle.table.proofs.Walking.{ending-at}
 use borrow.Author.Needs.{needs}
 use Rattle.table.proofs.ending.Statement.{statement}
 use Rattle.table.proofs.ending.Tie as tie
+
+last-below : Below 1000000 theLast
+last-below = record { unknowns = omega arith; variables = omega arith; clauses = omega arith; slots = omega arith }
 
 sub-last : tie.Need-sub-last
 sub-last c = search needs
@@ -43,7 +49,7 @@ returns-2 c =
     let n : s .args .rows ≤ length (s .args .t1) = omega arith in (
       λ t.
           rw (ending-at t (s .args .t1) (s .args .rows) (s .args .so) (s .pre .0) n, ne-eqb _ _ (c .before .if1 .left), filled (s .args .t1) blank (s .args .rows) (s .pre .1 .1 .0) n, length-take-le (s .args .rows) (s .args .t1) n, c .plus .ensures),
-      s .pre .1 .0,
+      record { few = s .pre .1 .0; limits = s .pre .1 .1 .1 .0; counts = plus-below (s .pre .1 .1 .1 .1) last-below (c .plus .ensures) },
     )
 
 pub ending-spec : {M : Type 1} → statement M

@@ -12,13 +12,13 @@ use Rattle.circuit.specs.declared.Counts.{Counts}
 use Rattle.sheet.specs.declared.Record.{Record}
 use Rattle.sheet.specs.Rows.{readRow}
 use Rattle.sheet.specs.Acceptance.{recordAt, judge, walk, accept}
+use Rattle.judge.specs.Bounds.{InLimits}
 use Rattle.counting.specs.Bounds.{Below}
 use Rattle.counting.proofs.Bounds.{plus-below}
-use Rattle.judge.specs.Bounds.{InLimits}
-use Rattle.table.specs.Surveys.{numberOfReading, numberOfVerdict, blank}
+use Rattle.table.specs.Surveys.{numberOfVerdict, blank, AllInLimits}
 use Rattle.table.proofs.Lengths.{Whole, is-refused, is-walked}
-use Rattle.table.proofs.Earlier.{fill, take-more, AllInLimits, limits-more, zeros, looked}
-use Rattle.table.proofs.Walking.{walk-pass, walk-stop, walk-end, read-stop, read-on}
+use Rattle.table.proofs.Earlier.{fill, take-more, limits-more, zeros, looked}
+use Rattle.table.proofs.Walking.{walk-pass, walk-stop, walk-end, Near, nearby, judged}
 use Rattle.table.proofs.survey.Statement.{statement}
 use Rattle.table.proofs.survey.Tie as tie
 
@@ -71,24 +71,11 @@ module _ (q : tie.In-loop Inv-loop μ-loop) where
   row-at x = looked records r x inside small (q .before .loop .inv .clear) (q .before .loop .inv .limits)
 
 -- the turn in which a row was read, and in which it was judged
-abbrev turn : tie.After-read-row Inv-loop μ-loop → tie.In-loop Inv-loop μ-loop
-turn j = j .before .before
+abbrev turn : tie.After-referred Inv-loop μ-loop → tie.In-loop Inv-loop μ-loop
+turn p = p .before .before .before
 
-abbrev reads : tie.After-judge-row Inv-loop μ-loop → tie.After-read-row Inv-loop μ-loop
-reads w = w .before .before .before .before .before .before .before .before .before .before
-
-judged : (w : tie.After-judge-row Inv-loop μ-loop) → let q = turn (reads w) in
-    judge (take (r q) (records q)) (so q .slots) (readRow (take 8 (drop (8 * r q) (table q)))) ≡ w .judge-row .result
-judged w =
-    let z = w .before .before .before .before in
-    let y = z .before in
-    let x = y .before in
-    let f = x .before .before in
-    let q = turn (reads w) in
-    let g = f .reading .given .0 .0 in
-    let u = rw add-sub-cancel-left at (sym (reads w .read-row .ensures) ∙ f .reading .given .1) in
-    let v = rw (x .place .ensures, y .place2 .ensures, z .place3 .ensures, row-at q (g .x) .0, row-at q (g .y) .0, row-at q (g .z) .0) at (w .judge-row .ensures .0) in
-    read-on (take (r q) (records q)) (so q .slots) _ g (r q) (many q) u ∙ sym v
+abbrev found : tie.After-verdict-on Inv-loop μ-loop → tie.After-referred Inv-loop μ-loop
+found w = w .before .before .before .before
 
 refusal-of-length-requires : tie.Need-refusal-of-length-requires Inv-loop μ-loop
 refusal-of-length-requires c κs = search needs
@@ -134,17 +121,53 @@ part-read-row-end c = search needs
 read-row-requires : tie.Need-read-row-requires Inv-loop μ-loop
 read-row-requires c κs = search needs
 
-enum-known-reading : tie.Need-enum-known-reading Inv-loop μ-loop
-enum-known-reading c = search needs
+referred-requires : tie.Need-referred-requires Inv-loop μ-loop
+referred-requires c κs = search needs
+
+-- where a row refers to there is a record, within the limits
+near : (p : tie.After-referred Inv-loop μ-loop) → Near (r (turn p)) (records (turn p)) (p .referred .result)
+near p = nearby (r (turn p)) (records (turn p)) (p .before .read-row .result) (p .referred .ensures) (small (turn p)) (λ x. row-at (turn p) x .1)
+
+mul-verdict-on : tie.Need-mul-verdict-on Inv-loop μ-loop
+mul-verdict-on c = omega (arith, near c .x .0)
+
+array-copy-out-verdict-on : tie.Need-array-copy-out-verdict-on Inv-loop μ-loop
+array-copy-out-verdict-on c = near c .x .0
+
+mul-verdict-on-2 : tie.Need-mul-verdict-on-2 Inv-loop μ-loop
+mul-verdict-on-2 c = omega (arith, near (c .before) .y .0)
+
+array-copy-out-verdict-on-2 : tie.Need-array-copy-out-verdict-on-2 Inv-loop μ-loop
+array-copy-out-verdict-on-2 c = near (c .before) .y .0
+
+mul-verdict-on-3 : tie.Need-mul-verdict-on-3 Inv-loop μ-loop
+mul-verdict-on-3 c = omega (arith, near (c .before .before) .z .0)
+
+array-copy-out-verdict-on-3 : tie.Need-array-copy-out-verdict-on-3 Inv-loop μ-loop
+array-copy-out-verdict-on-3 c = near (c .before .before) .z .0
+
+verdict-on-requires : tie.Need-verdict-on-requires Inv-loop μ-loop
+verdict-on-requires c κs = let n = near (c .before .before .before) in (n .x .1, (n .y .1, n .z .1))
+
+is-judged : (w : tie.After-verdict-on Inv-loop μ-loop) → let q = turn (found w) in
+    w .verdict-on .result ≡ judge (take (r q) (records q)) (so q .slots) (readRow (take 8 (drop (8 * r q) (table q))))
+is-judged w =
+    let p = found w in
+    let q = turn p in
+    let u = rw add-sub-cancel-left at (p .before .read-row .ensures) in
+    w .verdict-on .ensures .0 ∙ judged (take (r q) (records q)) (records q) (r q) (so q .slots) (p .before .read-row .result) (p .referred .ensures) (many q) (λ x. row-at q x .0) ∙ ap (judge (take (r q) (records q)) (so q .slots)) u
+
+enum-known-verdict : tie.Need-enum-known-verdict Inv-loop μ-loop
+enum-known-verdict c = search needs
 
 enum-told : tie.Need-enum-told Inv-loop μ-loop
 enum-told c = search needs
 
-number-of-reading-requires : tie.Need-number-of-reading-requires Inv-loop μ-loop
-number-of-reading-requires c κs = search needs
+number-of-verdict-requires : tie.Need-number-of-verdict-requires Inv-loop μ-loop
+number-of-verdict-requires c κs = search needs
 
 cast-refused : tie.Need-cast-refused Inv-loop μ-loop
-cast-refused c = search needs
+cast-refused c = omega (arith, small (turn (found (c .before .before .before))))
 
 refused-requires-2 : tie.Need-refused-requires-2 Inv-loop μ-loop
 refused-requires-2 c κs = search needs
@@ -152,111 +175,49 @@ refused-requires-2 c κs = search needs
 returns-2 : tie.Need-returns-2 Inv-loop μ-loop
 returns-2 c =
     let k = c .before .before in
-    let j = k .before .before in
-    let q = turn j in
-    let t = k .enum-told .given .1 in
-    let u = rw add-sub-cancel-left at (sym (j .read-row .ensures) ∙ t) in
-    let o = sym (q .before .loop .inv .left) ∙ walk-stop (take (r q) (records q)) (so q) (table q) (rows q) (r q) (below q) _ (read-stop (take (r q) (records q)) (so q .slots) _ _ u) in
-    (rw (o, many q) (rw (c .before .number-of-reading .ensures ∙ ap numberOfReading t) at (c .refused2 .ensures .0)), c .refused2 .ensures .1)
-
-place-requires : tie.Need-place-requires Inv-loop μ-loop
-place-requires c κs = search needs
-
-place-requires-2 : tie.Need-place-requires-2 Inv-loop μ-loop
-place-requires-2 c κs = search needs
-
-place-requires-3 : tie.Need-place-requires-3 Inv-loop μ-loop
-place-requires-3 c κs = search needs
-
-mul-judge-row : tie.Need-mul-judge-row Inv-loop μ-loop
-mul-judge-row c = search needs
-
-array-copy-out-judge-row : tie.Need-array-copy-out-judge-row Inv-loop μ-loop
-array-copy-out-judge-row c = search needs
-
-mul-judge-row-2 : tie.Need-mul-judge-row-2 Inv-loop μ-loop
-mul-judge-row-2 c = search needs
-
-array-copy-out-judge-row-2 : tie.Need-array-copy-out-judge-row-2 Inv-loop μ-loop
-array-copy-out-judge-row-2 c = search needs
-
-mul-judge-row-3 : tie.Need-mul-judge-row-3 Inv-loop μ-loop
-mul-judge-row-3 c = search needs
-
-array-copy-out-judge-row-3 : tie.Need-array-copy-out-judge-row-3 Inv-loop μ-loop
-array-copy-out-judge-row-3 c = search needs
-
-judge-row-requires : tie.Need-judge-row-requires Inv-loop μ-loop
-judge-row-requires c κs =
-    let z = c .before .before .before in
-    let y = z .before in
-    let x = y .before in
-    let f = x .before .before in
-    let q = turn (f .before .before) in
-    let g = f .reading .given .0 .0 in
-    (rw (x .place .ensures) (row-at q (g .x) .1), (rw (y .place2 .ensures) (row-at q (g .y) .1), rw (z .place3 .ensures) (row-at q (g .z) .1)))
-
-enum-known-verdict : tie.Need-enum-known-verdict Inv-loop μ-loop
-enum-known-verdict c = search needs
-
-enum-told-2 : tie.Need-enum-told-2 Inv-loop μ-loop
-enum-told-2 c = search needs
-
-number-of-verdict-requires : tie.Need-number-of-verdict-requires Inv-loop μ-loop
-number-of-verdict-requires c κs = search needs
-
-cast-refused-2 : tie.Need-cast-refused-2 Inv-loop μ-loop
-cast-refused-2 c = omega (arith, small (turn (reads (c .before .before .before))))
-
-refused-requires-3 : tie.Need-refused-requires-3 Inv-loop μ-loop
-refused-requires-3 c κs = search needs
-
-returns-3 : tie.Need-returns-3 Inv-loop μ-loop
-returns-3 c =
-    let k = c .before .before in
     let w = k .before .before in
-    let q = turn (reads w) in
-    let t = k .enum-told2 .given .1 in
-    let o = sym (q .before .loop .inv .left) ∙ walk-stop (take (r q) (records q)) (so q) (table q) (rows q) (r q) (below q) _ (judged w ∙ t) in
-    (rw (o, many q) (rw (c .before .number-of-verdict .ensures ∙ ap numberOfVerdict t) at (c .refused3 .ensures .0)), c .refused3 .ensures .1)
+    let q = turn (found w) in
+    let t = k .enum-told .given .1 in
+    let o = sym (q .before .loop .inv .left) ∙ walk-stop (take (r q) (records q)) (so q) (table q) (rows q) (r q) (below q) _ (sym (is-judged w) ∙ t) in
+    (rw (o, many q) (rw (c .before .number-of-verdict .ensures ∙ ap numberOfVerdict t) at (c .refused2 .ensures .0)), c .refused2 .ensures .1)
 
 mul-records : tie.Need-mul-records Inv-loop μ-loop
-mul-records c = omega (arith, small (turn (reads (c .before .before .before))))
+mul-records c = omega (arith, small (turn (found (c .before .before .before))))
 
 array-set-from-records : tie.Need-array-set-from-records Inv-loop μ-loop
-array-set-from-records c = small (turn (reads (c .before .before .before)))
+array-set-from-records c = small (turn (found (c .before .before .before)))
 
 plus-requires : tie.Need-plus-requires Inv-loop μ-loop
 plus-requires c κs =
     let k = c .before in
     let w = k .before .before in
-    let q = turn (reads w) in
-    let b = (rw (k .verdict .given .1) at (w .judge-row .ensures .1)) .1 in
+    let q = turn (found w) in
+    let b = (rw (k .verdict .given .1) at (w .verdict-on .ensures .1)) .1 in
     let i = q .before .loop .inv .few in
     let m = small q in
     (search needs, search needs)
 
 add-r : tie.Need-add-r Inv-loop μ-loop
-add-r c = omega (arith, small (turn (reads (c .before .before .before .before))))
+add-r c = omega (arith, small (turn (found (c .before .before .before .before))))
 
 loop-less : tie.Need-loop-less Inv-loop μ-loop
-loop-less c = omega (arith, below (turn (reads (c .before .before .before .before))))
+loop-less c = omega (arith, below (turn (found (c .before .before .before .before))))
 
 loop-again : tie.Need-loop-again Inv-loop μ-loop
 loop-again c =
     let k = c .before .before in
     let w = k .before .before in
-    let q = turn (reads w) in
+    let q = turn (found w) in
     let i = q .before .loop .inv in
     let o = k .verdict .given .0 .0 in
-    let p = rw (k .verdict .given .1) at (w .judge-row .ensures .1) in
+    let p = rw (k .verdict .given .1) at (w .verdict-on .ensures .1) in
     let b = plus-below (i .few) (p .1) (c .plus .ensures) in
     let more = take-more (records q) (r q) o (inside q) in
     record {
       whole = i .whole;
       within = omega (arith, below q);
       long = simp length-set (i .long);
-      left = rw (more, c .plus .ensures) (sym (walk-pass (take (r q) (records q)) (so q) (table q) (rows q) (r q) (below q) _ _ (judged w ∙ k .verdict .given .1)) ∙ i .left);
+      left = rw (more, c .plus .ensures) (sym (walk-pass (take (r q) (records q)) (so q) (table q) (rows q) (r q) (below q) _ _ (sym (is-judged w) ∙ k .verdict .given .1)) ∙ i .left);
       clear = fill (records q) blank (r q) (i .clear) o;
       limits = rw more (limits-more (take (r q) (records q)) o (i .limits) (p .0));
       few = record { unknowns = omega arith; variables = omega arith; clauses = omega arith; slots = omega arith };
@@ -268,10 +229,10 @@ ending-requires c κs =
     let i = t .loop .inv .few in
     let whole = t .loop .inv .whole in
     let e : t .loop .r ≡ length (t .before .before .before .before .args .table .now) / 8 = omega arith in
-    (search needs, (search needs, (rw e at (t .loop .inv .clear), search needs)))
+    (search needs, (search needs, (rw e at (t .loop .inv .clear), (rw e at (t .loop .inv .limits), search needs))))
 
-returns-4 : tie.Need-returns-4 Inv-loop μ-loop
-returns-4 c =
+returns-3 : tie.Need-returns-3 Inv-loop μ-loop
+returns-3 c =
     let t = c .before .before in
     let table = t .before .before .before .before .args .table .now in
     let e : t .loop .r ≡ length table / 8 = omega arith in
@@ -293,28 +254,20 @@ survey-spec =
     part-read-row-start
     part-read-row-end
     read-row-requires
-    enum-known-reading
+    referred-requires
+    mul-verdict-on
+    array-copy-out-verdict-on
+    mul-verdict-on-2
+    array-copy-out-verdict-on-2
+    mul-verdict-on-3
+    array-copy-out-verdict-on-3
+    verdict-on-requires
+    enum-known-verdict
     enum-told
-    number-of-reading-requires
+    number-of-verdict-requires
     cast-refused
     refused-requires-2
     returns-2
-    place-requires
-    place-requires-2
-    place-requires-3
-    mul-judge-row
-    array-copy-out-judge-row
-    mul-judge-row-2
-    array-copy-out-judge-row-2
-    mul-judge-row-3
-    array-copy-out-judge-row-3
-    judge-row-requires
-    enum-known-verdict
-    enum-told-2
-    number-of-verdict-requires
-    cast-refused-2
-    refused-requires-3
-    returns-3
     mul-records
     array-set-from-records
     plus-requires
@@ -322,4 +275,4 @@ survey-spec =
     loop-less
     loop-again
     ending-requires
-    returns-4)
+    returns-3)
