@@ -1,13 +1,15 @@
 // The literal map, 48 places a row: a row's literals are loaded and stored. Its layout is known nowhere else.
 ghost use mathlib.Core.Path.{_≡_};
 ghost use Prim.Native.Nat.{_+_, _*_, _≤_};
-ghost use lib.ListN.{length, take, drop};
+ghost use lib.IntN.{pos};
+ghost use lib.ListN.{length, getD, take, drop};
 ghost use Rattle.sheet.specs.Steps.{page};
 ghost use Rattle.frame.specs.Frame.{over};
 ghost use Rattle.frame.specs.Literals.{AllLit, IsNumber, slotsIn, literalsIn};
 ghost use Rattle.literal_map.specs.Cells.{Held, Referred};
 use frame::Number;
 use sheet::Fields;
+use sheet::MISSING;
 use sheet::Record;
 
 // A row that another refers to: its literals and its record.
@@ -23,14 +25,21 @@ pub struct Operands {
     pub c: Operand,
 }
 
-// What stands for a row that is not earlier.
-const MISSING: Record = Record {
-    sort: 0,
-    width: 1,
-    denominator: 1,
-    first: 0,
-    slots: 0,
-};
+// How many places the map of so many rows has.
+pub fn places(rows: usize) -> usize
+    requires { ⌜ rows ≤ 256 ⌝ }
+    ensures { λ n. ⌜ n ≡ 48 * rows ⌝ }
+{
+    48 * rows
+}
+
+// The first literal of a row.
+pub fn first(map: &[i32], row: usize) -> i32
+    requires { ⌜ 48 * row + 48 ≤ length (now map) ⌝ }
+    ensures { λ x. ⌜ x ≡ getD (now (map .entry)) (48 * row) (pos 0) ⌝ }
+{
+    map[48 * row]
+}
 
 // The first `width` literals of a row.
 fn load(map: &[i32], row: usize, width: usize) -> Number

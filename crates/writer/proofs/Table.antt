@@ -1,15 +1,15 @@
 -- The slots of a table: the first unit, what the rows write, and the last unit, one behind the other. Assumes nothing.
 use mathlib.Core.Path.{_≡_, refl, sym, ap, _∙_}
-use mathlib.Core.List.{List, [], _∷_, _++_, append-assoc}
+use mathlib.Core.List.{List, [], _∷_, _++_}
 use Prim.Native.Nat.{ℕ, _+_, _-_, _≤_}
 use native.Mathlib.Omega.{arith}
 use lib.IntN.{ℤ, pos}
-use lib.ListN.{length, length-append}
-use Rattle.circuit.specs.Literals.{slot, slotsOf}
+use lib.ListN.{length}
+use Rattle.circuit.specs.Literals.{slot}
 use Rattle.circuit.specs.Circuits.{gates, out, clausesFrom}
 use Rattle.circuit.proofs.Lengths.{slotsOf-append}
 use Rattle.sheet.specs.declared.Fields.{Fields}
-use Rattle.sheet.specs.Steps.{Cell, lit, cellAt, stepsFrom, steps, cells, clausesButLast, lastClause, clauses, slotsFor, pages, mapFor}
+use Rattle.sheet.specs.Steps.{lit, cellAt, stepsFrom, steps, cells, clausesButLast, lastClause, clauses, slotsFor, pages, mapFor}
 use Rattle.frame.specs.Frame.{front, over}
 use Rattle.frame.specs.Written.{written, Wrote}
 use Rattle.frame.proofs.Frames.{front-then}
@@ -18,7 +18,7 @@ abbrev pub lastLiteral : List Fields → ℤ
 lastLiteral rows = slot (lit (cellAt (out 1 (stepsFrom [] rows)) (length rows - 1)))
 
 -- the slots, part by part
-table-slots : (rows : List Fields) → slotsFor rows ≡ (pos 1 ∷ pos 0 ∷ written 1 (gates 1 (stepsFrom [] rows))) ++ lastLiteral rows ∷ pos 0 ∷ []
+pub table-slots : (rows : List Fields) → slotsFor rows ≡ (pos 1 ∷ pos 0 ∷ written 1 (gates 1 (stepsFrom [] rows))) ++ lastLiteral rows ∷ pos 0 ∷ []
 unfolding slotsFor clauses clausesButLast lastClause cells steps written
 table-slots rows = slotsOf-append (clausesFrom 0 (gates 0 (steps rows))) (lastClause rows ∷ [])
 

@@ -1,7 +1,7 @@
 -- The table's rows written one after the other: what the loop knows, a row more, and the end. Assumes nothing.
 use mathlib.Core.Path.{_≡_, refl, sym, ap, _∙_, subst}
-use mathlib.Core.List.{List, [], _∷_, _++_}
-use Prim.Native.Nat.{ℕ, _+_, _*_, _-_, _≤_, _<_, min}
+use mathlib.Core.List.{List, [], _∷_}
+use Prim.Native.Nat.{ℕ, _+_, _*_, _≤_, _<_, min}
 use native.Mathlib.Omega.{arith}
 use mathlib.Core.Bool.{Bool, true, false}
 use lib.Dec.{ltb}
@@ -12,15 +12,14 @@ use borrow.Author.Tests.{ltb-true, ltb-false}
 use Rattle.whole.specs.Tests.{if_then_else_}
 use Rattle.circuit.specs.declared.Counts.{Counts}
 use Rattle.circuit.specs.Literals.{falsity, slotsOf}
-use Rattle.circuit.specs.Circuits.{Circuit, gates, out, clausesFrom}
-use Rattle.circuit.specs.Counting.{theFirst}
+use Rattle.circuit.specs.Circuits.{gates, clausesFrom}
 use Rattle.sheet.specs.declared.Fields.{Fields}
 use Rattle.sheet.specs.declared.Record.{Record}
 use Rattle.sheet.specs.Rows.{rowsOf}
-use Rattle.sheet.specs.Acceptance.{missing, recordAt, Sheet}
-use Rattle.sheet.specs.Steps.{Cell, cell, cellAt, page, pages, rowSteps, stepsFrom, steps, mapFor}
-use Rattle.sheet.proofs.Accepted.{Passes, Passed, accepted-tells}
-use Rattle.sheet.proofs.Walked.{Ahead, ahead-all, Row, ahead-row}
+use Rattle.sheet.specs.Acceptance.{missing, recordAt}
+use Rattle.sheet.specs.Steps.{cell, cellAt, page, rowSteps, stepsFrom, steps, mapFor}
+use Rattle.sheet.proofs.Accepted.{Passes}
+use Rattle.sheet.proofs.Walked.{Ahead, Row, ahead-row}
 use Rattle.sheet.proofs.Counted.{cell-at}
 use Rattle.sheet.proofs.Total.{whole-table}
 use Rattle.sheet.proofs.Pages.{narrow-at}
@@ -30,13 +29,15 @@ use Rattle.frame.specs.Literals.{literalsIn}
 use Rattle.frame.specs.Written.{written, Room}
 use Rattle.frame.proofs.Writing.{slotsAt, writing, wrote-done, done-wrote}
 use Rattle.literal_map.specs.declared.Operand.{Operand}
-use Rattle.literal_map.specs.Cells.{InMap, Held, IsOperand, Referred, cellIn, cellOr, cellOf}
+use Rattle.literal_map.specs.Cells.{Held, IsOperand, Referred, cellIn, cellOr, cellOf}
 use Rattle.literal_map.specs.Rows.{RowMade}
 use Rattle.literal_map.proofs.Reading.{slots-read}
 use Rattle.numbers.specs.Bounds.{Denominator}
 use Rattle.number_row.specs.Over.{IsOver}
 use Rattle.row_writer.specs.Ready.{Ready, stepsOver}
-use Rattle.table.proofs.Earlier.{zeros, any-default}
+use Rattle.table.specs.Accepted as Table
+use Rattle.table.proofs.Earlier.{zeros}
+use Rattle.table.proofs.Rowwise.{tells, all-read, all-ahead, all-bytes, few-rows, record-at, none-left}
 use Rattle.writer.specs.Accepted.{Accepted, rowSlots}
 use Rattle.writer.proofs.Walk.{Walk, walk-all, walk-cell, walk-room, walk-next, walk-end}
 use Rattle.writer.proofs.Table.{table-map}
@@ -63,33 +64,17 @@ module _ (table : List ℕ) (rows : ℕ) (records : List Record) (map₀ slots�
   abbrev all : List Fields
   all = rowsOf rows table
 
-  read : ok .sheet .rows ≡ all
-  read =
-      let a = accepted-tells table (ok .sheet) (ok .is) in
-      a .read ∙ ap (λ (n : ℕ). rowsOf n table) (sym (a .many) ∙ ok .many)
+  abbrev known : Table.Accepted table rows
+  known = record { sheet = ok .sheet; is = ok .is; many = ok .many }
 
   room : Room 2 1 (gates 1 (stepsFrom [] all)) slots₀
   room =
-      let a = accepted-tells table (ok .sheet) (ok .is) in
+      let a = tells known in
       let w = whole-table (ok .sheet) (a .total) (a .passed) in
-      room-for (ok .sheet .rows) all slots₀ read (w .variables) (w .slot) (omega (arith, ap (λ (k : Counts). k .variables) (a .counted), ok .few)) (omega (arith, ap (λ (k : Counts). k .slots) (a .counted), ok .slots))
+      room-for (ok .sheet .rows) all slots₀ (all-read known) (w .variables) (w .slot) (omega (arith, ap (λ (k : Counts). k .variables) (a .counted), ok .few)) (omega (arith, ap (λ (k : Counts). k .slots) (a .counted), ok .slots))
 
   pub walking-none : Walking table rows records map₀ slots₀ map₀ slots₀ 2 1 0
-  walking-none =
-      let a = accepted-tells table (ok .sheet) (ok .is) in
-      record {
-        ok = ok;
-        some = omega arith;
-        rest = all;
-        total = a .total;
-        ahead = ahead-all table (ok .sheet .records) (a .total) rows all refl (ok .many) (subst (λ (fs : List Fields). Passed [] theFirst fs (ok .sheet .records) (a .total)) read (a .passed));
-        walk = walk-all room;
-      }
-
--- a list that is empty
-none-left : (l : List Fields) → length l ≡ 0 → l ≡ []
-none-left [] h = refl
-none-left (f ∷ l) h = absurd (omega arith)
+  walking-none = record { ok = ok; some = omega arith; rest = all; total = tells known .total; ahead = all-ahead known; walk = walk-all room }
 
 module _ {table : List ℕ} {rows : ℕ} {records : List Record} {map₀ slots₀ map slots : List ℤ} {at n r : ℕ} (p : Walking table rows records map₀ slots₀ map slots at n r) where
   -- all rows are written
@@ -103,10 +88,10 @@ module _ {table : List ℕ} {rows : ℕ} {records : List Record} {map₀ slots�
 
   -- what does not change
   pub walking-bytes : length table ≡ 8 * rows
-  walking-bytes = accepted-tells table (p .ok .sheet) (p .ok .is) .bytes ∙ ap (λ (n : ℕ). 8 * n) (p .ok .many)
+  walking-bytes = all-bytes (known table rows records map₀ slots₀ (p .ok))
 
   pub walking-few : rows ≤ 256
-  walking-few = omega (arith, accepted-tells table (p .ok .sheet) (p .ok .is) .few, p .ok .many)
+  walking-few = few-rows (known table rows records map₀ slots₀ (p .ok))
 
   pub walking-long : (length map ≡ length map₀) × (length slots ≡ length slots₀)
   walking-long = (p .walk .long, p .walk .left .long)
@@ -132,9 +117,7 @@ module _ {table : List ℕ} {rows : ℕ} {records : List Record} {map₀ slots�
     read-record : (x : ℕ) → x < r → getD records (min x r) zeros ≡ recordAt before x
     read-record x k =
         let i : min x r ≡ x = omega arith in
-        let m : length (p .ok .sheet .records) ≡ rows = p .ok .many in
-        let e : getD records x zeros ≡ getD (p .ok .sheet .records) x zeros = sym (getD-take rows records x zeros (omega arith)) ∙ ap (λ (l : List Record). getD l x zeros) (p .ok .held) in
-        rw i (e ∙ any-default (p .ok .sheet .records) x zeros missing (omega arith) ∙ sym (getD-take r (p .ok .sheet .records) x missing k))
+        rw i (record-at (known table rows records map₀ slots₀ (p .ok)) records (p .ok .held) r x (omega arith) k)
 
     pub walking-held : (x : ℕ) → Held map r x (getD records (min x r) zeros)
     walking-held x k =

@@ -1,6 +1,6 @@
 // Rows to clauses: one row after the other, its slots behind those before it, its literals into the map.
 ghost use mathlib.Core.Path.{_≡_};
-ghost use Prim.Native.Nat.{_+_, min};
+ghost use Prim.Native.Nat.{_+_};
 ghost use lib.ListN.{length};
 ghost use Rattle.sheet.specs.Rows.{rowsOf};
 ghost use Rattle.sheet.specs.Steps.{mapFor};
@@ -8,14 +8,6 @@ ghost use Rattle.frame.specs.Frame.{front, over};
 ghost use Rattle.writer.specs.Accepted.{Accepted, rowSlots};
 use sheet::Reading;
 use sheet::Record;
-
-// Where row x stands among the records, if it is one of the r rows before; else at r.
-fn place(x: u16, r: usize) -> usize
-    ensures { λ i. ⌜ i ≡ min x r ⌝ }
-{
-    let i = x as usize;
-    if i < r { i } else { r }
-}
 
 // The rows of an accepted table; answers where their slots end.
 pub fn write_rows(
@@ -38,9 +30,9 @@ pub fn write_rows(
         let Reading::Read(f) = row::read_row(&table[start..end]) else {
             return at;
         };
-        let x = place(f.x, r);
-        let y = place(f.y, r);
-        let z = place(f.z, r);
+        let x = table::place(f.x, r);
+        let y = table::place(f.y, r);
+        let z = table::place(f.z, r);
         let o = literal_map::refer_all(map, r, f, records[x], records[y], records[z]);
         let made = row_writer::write_row(slots, at, next, f, o.a, o.b, o.c);
         literal_map::store(map, r, made.number);

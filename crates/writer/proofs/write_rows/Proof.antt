@@ -1,24 +1,15 @@
 -- `writer::write_rows` meets its contract. Assumes nothing.
-use mathlib.Core.Path.{_≡_, refl, sym, ap, _∙_}
-use mathlib.Core.List.{List}
-use Prim.Native.Nat.{ℕ, _+_, _*_, _-_, _≤_, _<_, min}
+use mathlib.Core.Path.{_≡_, sym, _∙_}
+use Prim.Native.Nat.{_+_, _*_, _-_, _≤_, _<_}
 use native.Mathlib.Nat.{add-sub-cancel-left}
 use native.Mathlib.Omega.{arith}
 use borrow.Author.Needs.{needs}
-use lib.ListN.{length, getD, take, drop, length-drop}
-use lib.Seq.{length-take-le}
+use lib.ListN.{length}
 use Rattle.sheet.specs.declared.Fields.{Fields}
-use Rattle.sheet.specs.declared.Reading.{Reading}
-use Rattle.sheet.specs.declared.Reading.the-variants.{Read, Refused}
+use Rattle.table.proofs.Rowwise.{same-read, not-refused}
 use Rattle.writer.proofs.Walking.{Walking, walking-none, walking-end, walking-bytes, walking-few, walking-long, walking-row, walking-held, Is, walking-operand, walking-ready, walking-room, walking-next}
 use Rattle.writer.proofs.write_rows.Statement.{statement}
 use Rattle.writer.proofs.write_rows.Tie as tie
-
-same-read : {f g : Fields} → Read f ≡ Read g → f ≡ g
-same-read e = cc
-
-not-refused : {f : Fields} {n : ℕ} → Read f ≡ Refused n → ⊥
-not-refused e = let z : _≡_ {A = ℕ} 0 1 = cc in absurd (omega arith)
 
 abbrev Inv-loop : tie.InvT-loop
 Inv-loop table rows map₀ slots₀ records at₀ next₀ r₀ map slots at next r = Walking table rows records map₀ slots₀ map slots at next r

@@ -1,0 +1,2 @@
+-- The laws of a row's clauses. Assumes nothing.
+pub mod Answers

@@ -1,0 +1,2 @@
+-- Where a row's slots are found. Assumes nothing.
+pub mod Finding

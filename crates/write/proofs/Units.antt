@@ -1,0 +1,86 @@
+-- The first and the last unit around the slots of an accepted table's rows: there is room for both, and the last is read from the map.
+-- Assumes nothing.
+use mathlib.Core.Path.{_≡_, refl, sym, ap, _∙_}
+use mathlib.Core.List.{List, [], _∷_, _++_}
+use Prim.Native.Nat.{ℕ, _+_, _*_, _-_, _≤_, _<_}
+use native.Mathlib.Nat.{add-zero}
+use native.Mathlib.Omega.{arith}
+use lib.IntN.{ℤ, pos}
+use lib.ListN.{length, getD, drop, length-append}
+use lib.Seq.{getD-take, getD-drop}
+use Rattle.circuit.specs.Literals.{Lit, falsity, slot}
+use Rattle.circuit.specs.Circuits.{gates, out}
+use Rattle.circuit.specs.Counting.{theFirst}
+use Rattle.sheet.specs.declared.Fields.{Fields}
+use Rattle.sheet.specs.declared.Record.{Record}
+use Rattle.sheet.specs.Rows.{rowsOf}
+use Rattle.sheet.specs.Steps.{Cell, lit, cellAt, page, pages, stepsFrom, steps, cells, slotsFor, mapFor}
+use Rattle.sheet.proofs.Accepted.{accepted-tells}
+use Rattle.sheet.proofs.Counted.{cell-at, cells-many}
+use Rattle.sheet.proofs.Pages.{Narrow, narrow-cells, pages-at}
+use Rattle.sheet.proofs.Total.{whole-table}
+use Rattle.promise.proofs.Counts.{counted, passed-narrow}
+use Rattle.table.specs.Accepted as Table
+use Rattle.table.proofs.Rowwise.{all-read}
+use Rattle.frame.specs.Frame.{front, over}
+use Rattle.frame.specs.Written.{written}
+use Rattle.writer.specs.Accepted.{Accepted, rowSlots}
+use Rattle.writer.proofs.Table.{lastLiteral, table-slots, table-written}
+
+-- a page begins with the row's first literal
+page-head : (ls : List Lit) → 0 < length ls → getD (page ls) 0 (pos 0) ≡ slot (getD ls 0 falsity)
+page-head [] h = absurd (omega arith)
+page-head (l ∷ ls) h = refl
+
+-- the first place of row x of a map whose rows are cs
+head-read : (cs : List Cell) (rest : List ℤ) (x : ℕ) → Narrow cs → x < length cs → 0 < length (cellAt cs x .literals)
+    → getD (pages cs ++ rest) (48 * x) (pos 0) ≡ slot (lit (cellAt cs x))
+head-read cs rest x n h some =
+    ap (λ (i : ℕ). getD (pages cs ++ rest) i (pos 0)) (sym (add-zero (48 * x)))
+    ∙ sym (getD-drop (48 * x) (pages cs ++ rest) 0 (pos 0))
+    ∙ sym (getD-take 48 (drop (48 * x) (pages cs ++ rest)) 0 (pos 0) (omega arith))
+    ∙ ap (λ (l : List ℤ). getD l 0 (pos 0)) (pages-at cs x rest n h)
+    ∙ page-head (cellAt cs x .literals) some
+
+module _ (table : List ℕ) (rows : ℕ) (records : List Record) (map₀ slots₀ : List ℤ) (ok : Accepted table rows records (length map₀) (length slots₀)) where
+  known-rows : ok .sheet .rows ≡ rowsOf rows table
+  known-rows =
+      let known : Table.Accepted table rows = record { sheet = ok .sheet; is = ok .is; many = ok .many } in
+      all-read known
+
+  pub some-rows : 0 < rows
+  some-rows = omega (arith, accepted-tells table (ok .sheet) (ok .is) .some, ok .many)
+
+  -- room for all: the first unit, the rows and the last unit
+  pub units-fit : 2 + length (rowSlots rows table) + 2 ≤ length slots₀
+  unfolding rowSlots
+  units-fit =
+      let k = counted table (ok .sheet) (ok .is) in
+      let e = ap (λ (fs : List Fields). length (slotsFor fs)) known-rows in
+      let f = ap length (table-slots (rowsOf rows table)) ∙ length-append (pos 1 ∷ pos 0 ∷ written 1 (gates 1 (stepsFrom [] (rowsOf rows table)))) (lastLiteral (rowsOf rows table) ∷ pos 0 ∷ []) in
+      omega (arith, k .slot, ok .slots)
+
+  last-in : {m : List ℤ} → m ≡ front (mapFor (ok .sheet .rows)) map₀ → getD m (48 * (length (ok .sheet .rows) - 1)) (pos 0) ≡ lastLiteral (ok .sheet .rows)
+  unfolding mapFor cells steps front
+  last-in e =
+      let fs = ok .sheet .rows in
+      let a = accepted-tells table (ok .sheet) (ok .is) in
+      let w = whole-table (ok .sheet) (a .total) (a .passed) in
+      let cs = out 1 (stepsFrom [] fs) in
+      let narrow = narrow-cells _ (ok .sheet .records) cs (w .fit) (passed-narrow fs [] theFirst (ok .sheet .records) (a .total) (a .passed) tt) in
+      let c = cell-at _ (omega arith) (ok .sheet .records) cs (w .fit) (length fs - 1) in
+      let many : length cs ≡ length fs = cells-many _ (ok .sheet .records) cs (w .fit) ∙ counted table (ok .sheet) (ok .is) .records in
+      let last : length fs - 1 < length cs = omega (arith, a .some, counted table (ok .sheet) (ok .is) .records) in
+      ap (λ (l : List ℤ). getD l (48 * (length fs - 1)) (pos 0)) e ∙ head-read cs _ (length fs - 1) narrow last (omega (arith, c .some, c .lits .size))
+
+  pub last-read : {m : List ℤ} → m ≡ front (mapFor (rowsOf rows table)) map₀ → getD m (48 * (rows - 1)) (pos 0) ≡ lastLiteral (rowsOf rows table)
+  last-read {m} e =
+      let r = known-rows in
+      let n : rows ≡ length (ok .sheet .rows) = omega (arith, ok .many, counted table (ok .sheet) (ok .is) .records) in
+      ap (λ (i : ℕ). getD m (48 * (i - 1)) (pos 0)) n ∙ last-in (e ∙ ap (λ (fs : List Fields). front (mapFor fs) map₀) (sym r)) ∙ ap lastLiteral r
+
+  -- the slots of the whole table
+  pub units-written : {s₁ s₂ s₃ : List ℤ} {at : ℕ} → s₁ ≡ front (pos 1 ∷ pos 0 ∷ []) slots₀ → s₂ ≡ over 2 (rowSlots rows table) s₁ → at ≡ 2 + length (rowSlots rows table)
+      → s₃ ≡ over at (lastLiteral (rowsOf rows table) ∷ pos 0 ∷ []) s₂ → s₃ ≡ front (slotsFor (rowsOf rows table)) slots₀
+  unfolding rowSlots
+  units-written e f g h = table-written (rowsOf rows table) slots₀ (omega (arith, units-fit)) e (record { slots = f; place = g; number = refl }) h
