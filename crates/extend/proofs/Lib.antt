@@ -1,6 +1,6 @@
--- The laws of gates run over a model. Assumes nothing.
-pub mod Fills
-pub mod Running
-pub mod Leaving
+-- The laws of bits put into a model. Assumes nothing.
+pub mod Putting
 pub mod Halving
-pub mod Unknowns
+pub mod Places
+pub mod Turns
+pub mod Totals

@@ -1,2 +1,2 @@
--- Gates run one after the other over a model's bytes. Assumes nothing.
-pub mod Filled
+-- Bits put into a model's bytes. Assumes nothing.
+pub mod Bytes

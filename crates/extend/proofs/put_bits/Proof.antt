@@ -1,44 +1,55 @@
 -- `extend::put_bits` meets its contract. Assumes nothing.
+use mathlib.Core.Path.{_≡_, ap}
+use mathlib.Core.List.{[], _∷_}
 use Prim.Native.Nat.{_-_}
 use native.Mathlib.Omega.{arith}
 use borrow.Author.Needs.{needs}
 use mir.Syntax.{w64}
 use mir.Val.{toZ}
 use mir.Facts.{toZ-ofZ}
+use Rattle.whole.specs.Bits.{odd, half, bitsOf}
 use Rattle.arithmetic.proofs.Words.{kept}
-use Rattle.extend.proofs.Unknowns.{Putting, putting-all, putting-room, putting-step, putting-none}
+use Rattle.extend.proofs.Putting.{Left, left-all, left-room, left-step, left-none}
+use Rattle.extend.proofs.Turns.{bits-turn}
 use Rattle.extend.proofs.put_bits.Statement.{statement}
 use Rattle.extend.proofs.put_bits.Tie as tie
 
 abbrev Inv-loop : tie.InvT-loop
-Inv-loop model₀ next p v i₀ rest₀ model i rest = Putting model₀ next p (toZ w64 v) model i (toZ w64 rest)
+Inv-loop model₀ at w v place₀ rest₀ left₀ model place rest left = Left model₀ at (bitsOf w (toZ w64 v)) model place (bitsOf left (toZ w64 rest))
 
 abbrev μ-loop : tie.MeasureT-loop
-μ-loop model₀ next p v i₀ rest₀ model i rest = p - i
+μ-loop model₀ at w v place₀ rest₀ left₀ model place rest left = left
 
 loop-holds : tie.Need-loop-holds Inv-loop μ-loop
-loop-holds c = let s = c .before in putting-all (s .args .model .now) (s .args .next) (s .args .p) _ (s .pre)
+loop-holds c = let s = c .before in rw (toZ-ofZ (s .fits .v)) (left-all (s .pre))
 
-add-put-bit : tie.Need-add-put-bit Inv-loop μ-loop
-add-put-bit c =
+lowest-requires : tie.Need-lowest-requires Inv-loop μ-loop
+lowest-requires c κs = tt
+
+put-requires : tie.Need-put-requires Inv-loop μ-loop
+put-requires c κs =
     let t = c .before .before in
-    omega (arith, putting-room (t .loop .inv) (c .before .loop-test .taken))
+    let z = toZ w64 (t .before .loop .rest) in
+    let n = t .before .loop .left in
+    rw (c .lowest .ensures) (left-room (t .before .loop .inv) (odd z ∷ []) (bitsOf (n - 1) (half z)) (bits-turn n z (t .loop-test .taken)))
 
-put-bit-requires : tie.Need-put-bit-requires Inv-loop μ-loop
-put-bit-requires c κs = putting-room (c .before .before .loop .inv) (c .before .loop-test .taken)
+upper-requires : tie.Need-upper-requires Inv-loop μ-loop
+upper-requires c κs = tt
 
-add-i : tie.Need-add-i Inv-loop μ-loop
-add-i c = search needs
+sub-left : tie.Need-sub-left Inv-loop μ-loop
+sub-left c = search needs
 
 loop-less : tie.Need-loop-less Inv-loop μ-loop
 loop-less c = omega arith
 
 loop-again : tie.Need-loop-again Inv-loop μ-loop
 loop-again c =
-    let b = c .before .before in
-    let t = b .before .before .before in
-    rw (kept (b .put-bit .result) (b .put-bit .ok), b .put-bit .ensures .1)
-    (putting-step (t .loop .inv) (b .before .before .loop-test .taken) (b .put-bit .ensures .0))
+    let p = c .before .before .before in
+    let t = p .before .before .before in
+    let z = toZ w64 (t .before .loop .rest) in
+    let n = t .before .loop .left in
+    rw (kept (c .upper .result) (c .upper .ok), c .upper .ensures)
+    (left-step (t .before .loop .inv) (odd z ∷ []) (bitsOf (n - 1) (half z)) (bits-turn n z (t .loop-test .taken)) (rw (p .before .lowest .ensures) at (p .put .ensures)))
 
 same-length : tie.Need-same-length Inv-loop μ-loop
 same-length c = c .before .loop .inv .long
@@ -46,8 +57,8 @@ same-length c = c .before .loop .inv .long
 returns : tie.Need-returns Inv-loop μ-loop
 returns c =
     let t = c .before in
-    let s = t .before .before in
-    rw (toZ-ofZ (s .fits .v)) at (putting-none (t .loop .inv) (c .loop-test .left))
+    let none : t .loop .left ≡ 0 = omega (arith, c .loop-test .left) in
+    rw (toZ-ofZ (t .before .before .fits .v)) at (left-none (t .loop .inv) (ap (λ n. bitsOf n (toZ w64 (t .loop .rest))) none))
 
 pub put-bits-spec : {M : Type 1} → statement M
 put-bits-spec =
@@ -56,9 +67,10 @@ put-bits-spec =
     Inv-loop
     μ-loop
     loop-holds
-    add-put-bit
-    put-bit-requires
-    add-i
+    lowest-requires
+    put-requires
+    upper-requires
+    sub-left
     loop-less
     loop-again
     same-length

@@ -1,0 +1,3 @@
+-- The values outside their bits, and what choosing answers. Assumes nothing.
+pub mod Outside
+pub mod Choosing

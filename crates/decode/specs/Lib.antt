@@ -1,0 +1,3 @@
+-- What decoding answers, and what its loop asks and leaves. Assumes nothing.
+pub mod Decoded
+pub mod Settings

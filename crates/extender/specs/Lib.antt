@@ -1,0 +1,3 @@
+-- A table whose rows are extended. Assumes nothing.
+pub mod Accepted
+pub mod Referred

@@ -1,0 +1,2 @@
+-- Laws of numbers that are extended. Assumes nothing.
+pub mod Read

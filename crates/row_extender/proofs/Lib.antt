@@ -1,0 +1,2 @@
+-- Laws of rows that are extended. Assumes nothing.
+pub mod Tracing

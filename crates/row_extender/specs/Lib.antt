@@ -1,0 +1,2 @@
+-- A row that is extended. Assumes nothing.
+pub mod Ready
