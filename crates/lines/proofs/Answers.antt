@@ -14,11 +14,11 @@ use Rattle.sheet.specs.Acceptance.{Outcome, refused, accepted}
 use Rattle.sheet.specs.Calls.{left}
 use Rattle.sheet.specs.Texts.{tableIn, Lines, lines, linesFrom, readLines, linesAnswer}
 
-answer-read : (o : Outcome Lines) (found : LinesFound) → Read found ≡ linesAnswer o → o ≡ lines (found .rows) (found .rest) (found .ended)
+pub answer-read : (o : Outcome Lines) (found : LinesFound) → Read found ≡ linesAnswer o → o ≡ lines (found .rows) (found .rest) (found .ended)
 answer-read (refused n p) found e = let z : _≡_ {A = ℕ} 0 1 = cc in absurd (omega arith)
 answer-read (accepted l) found e = let f : found ≡ record { rows = l .rows; rest = l .rest; ended = l .ended } = cc in rw f
 
-answer-refused : (o : Outcome Lines) (n p : ℕ) → Refused n p ≡ linesAnswer o → o ≡ refused n p
+pub answer-refused : (o : Outcome Lines) (n p : ℕ) → Refused n p ≡ linesAnswer o → o ≡ refused n p
 answer-refused (refused m q) n p e = cc
 answer-refused (accepted l) n p e = let z : _≡_ {A = ℕ} 0 1 = cc in absurd (omega arith)
 

@@ -4,3 +4,4 @@ pub mod Signs
 pub mod Decimals
 pub mod Pages
 pub mod Pieces
+pub mod Whole

@@ -46,7 +46,7 @@ pub pair-parts : (word : List ℕ) (m n : ℕ) → word ++ (decimal m ++ 32 ∷ 
 unfolding pairLine
 pair-parts word m n = simp append-assoc
 
-length-pair : (word : List ℕ) (m n : ℕ) → length (pairLine word m n) ≤ length word + 42
+pub length-pair : (word : List ℕ) (m n : ℕ) → length (pairLine word m n) ≤ length word + 42
 length-pair word m n = rw (sym (pair-parts word m n)) (simp length-append (omega (arith, length-decimal m, length-decimal n)))
 
 -- ---- slots
@@ -59,7 +59,7 @@ pub slot-other : (z : ℤ) → (natAbs z ≡ 0 → ⊥) → slotText z ≡ signe
 unfolding slotText
 slot-other z e = rw (ne-eqb (natAbs z) 0 e)
 
-length-slot : (z : ℤ) → length (slotText z) ≤ 22
+pub length-slot : (z : ℤ) → length (slotText z) ≤ 22
 unfolding slotText
 length-slot z = by (eqb (natAbs z) 0)
   where
@@ -102,7 +102,7 @@ unfolding joined slotTexts
 slots-joined [] = refl
 slots-joined (z ∷ slots) = ap (λ (t : List ℕ). slotText z ++ t) (slots-joined slots)
 
-dimacs-joined : (sheet : Sheet) → joined (dimacsPieces (sheet .counts .variables) (sheet .counts .clauses) (slotsFor (sheet .rows))) ≡ dimacs sheet
+pub dimacs-joined : (sheet : Sheet) → joined (dimacsPieces (sheet .counts .variables) (sheet .counts .clauses) (slotsFor (sheet .rows))) ≡ dimacs sheet
 unfolding joined dimacsPieces dimacs pairLine
 dimacs-joined sheet = ap (λ (t : List ℕ). pairLine (ascii "p cnf ") (sheet .counts .variables) (sheet .counts .clauses) ++ t) (slots-joined (slotsFor (sheet .rows)))
 

@@ -158,7 +158,7 @@ over-many s [] (r ∷ rs) h = absurd h
 over-many s (f ∷ rows) [] h = absurd h
 over-many s (f ∷ rows) (r ∷ rs) h = ap suc (over-many s rows rs (h .1))
 
-settings-joined : (table : List ℕ) (sheet : Sheet) → accept table ≡ accepted sheet → (s : Assignment)
+pub settings-joined : (table : List ℕ) (sheet : Sheet) → accept table ≡ accepted sheet → (s : Assignment)
     → joined (tablePieces table (settings sheet s)) ≡ settingLines 0 (sheet .rows) (readRows sheet s)
 unfolding settings readRows
 settings-joined table sheet e s =

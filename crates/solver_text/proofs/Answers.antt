@@ -17,12 +17,12 @@ use Rattle.sheet.specs.Calls.{left}
 use Rattle.sheet.specs.Texts.{ascii, Claim, noneClaimed, model, satisfiable, unsatisfiable, variableTexts, modelLine, signsIn, starts, claimIn, readClaim, claimAnswer, modelBytes}
 use Rattle.solver_text.proofs.Passing.{starts-append}
 
-answer-refused : (o : Outcome Claim) (a b : ℕ) → Refused a b ≡ claimAnswer o → o ≡ refused a b
+pub answer-refused : (o : Outcome Claim) (a b : ℕ) → Refused a b ≡ claimAnswer o → o ≡ refused a b
 answer-refused (refused m q) a b e = cc
 answer-refused (accepted noneClaimed) a b e = let z : _≡_ {A = ℕ} 0 1 = cc in absurd (omega arith)
 answer-refused (accepted (model bs)) a b e = let z : _≡_ {A = ℕ} 0 1 = cc in absurd (omega arith)
 
-answer-none : (o : Outcome Claim) → NoneClaimed ≡ claimAnswer o → o ≡ accepted noneClaimed
+pub answer-none : (o : Outcome Claim) → NoneClaimed ≡ claimAnswer o → o ≡ accepted noneClaimed
 answer-none (refused m q) e = let z : _≡_ {A = ℕ} 0 1 = cc in absurd (omega arith)
 answer-none (accepted noneClaimed) e = refl
 answer-none (accepted (model bs)) e = let z : _≡_ {A = ℕ} 0 1 = cc in absurd (omega arith)

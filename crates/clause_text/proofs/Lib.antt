@@ -1,0 +1,2 @@
+-- Laws of the clause program's output. Assumes nothing.
+pub mod Output

@@ -1,0 +1,2 @@
+-- What is printed of a table. Assumes nothing.
+pub mod Printing

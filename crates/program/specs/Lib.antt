@@ -1,0 +1,2 @@
+-- The steps that both programs share. Assumes nothing.
+pub mod Sheets
