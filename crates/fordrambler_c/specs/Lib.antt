@@ -1,0 +1,2 @@
+-- What the calls for C owe. Assumes nothing.
+pub mod Told
