@@ -1,0 +1,147 @@
+//! Runs the comparisons. What is compared comes in the environment, as harness/run sets it:
+//! SEED; SERVER, the command of the server that makes the library's calls; CLAUSES and SETTINGS, the commands of the two programs;
+//! SOLVERS, the names of solvers; FOLDER, for files in passing; ROUNDS, how much to do. What is not set is left out, and said so.
+
+use harness::compare::{calls, programs};
+use harness::demand;
+use harness::library::{Library, Plain, Programs};
+use harness::piped::Piped;
+use harness::processes::Processes;
+use harness::random::Random;
+use harness::report::Report;
+use harness::solvers::{self, Solver};
+use std::path::PathBuf;
+use std::process::ExitCode;
+
+/// How often each refusal must have occurred for a run to count.
+const OFTEN: u64 = 20;
+
+/// Differences after which calls are compared no further.
+const ENOUGH: usize = 20;
+
+fn words(name: &str) -> Option<Vec<String>> {
+    let value = std::env::var(name).ok()?;
+    let words: Vec<String> = value.split_whitespace().map(String::from).collect();
+    (!words.is_empty()).then_some(words)
+}
+
+fn number(name: &str, otherwise: u64) -> u64 {
+    words(name).map_or(otherwise, |w| w[0].parse().unwrap_or_else(|_| panic!("{name} is a number")))
+}
+
+fn main() -> ExitCode {
+    let seed = number("SEED", 1);
+    let rounds = number("ROUNDS", 2000);
+    println!("harness: SEED={seed} ROUNDS={rounds}");
+    let mut report = Report::default();
+    compare_calls(seed, rounds, &mut report);
+    compare_programs(seed, rounds / 10, &mut report);
+    if report.differences.is_empty() {
+        try_demand(seed, rounds / 10, &mut report);
+        try_solvers(seed, rounds / 30, &mut report);
+    } else {
+        println!("skipped: demand 3 and solvers (the calls or the programs differ already)");
+    }
+    report.print();
+    finish(&report)
+}
+
+fn library() -> Option<Piped> {
+    words("SERVER").map(|command| Piped::start(&command))
+}
+
+/// Both programs; the command of one that is not set has no words.
+fn processes() -> Processes {
+    Processes { clauses: words("CLAUSES").unwrap_or_default(), settings: words("SETTINGS").unwrap_or_default() }
+}
+
+fn compare_calls(seed: u64, rounds: u64, report: &mut Report) {
+    let Some(mut library) = library() else {
+        println!("skipped: calls of the library (SERVER is not set)");
+        return;
+    };
+    let mut random = Random::new(seed);
+    for _ in 0..rounds {
+        calls::round(&mut random, &mut library, report);
+        if report.differences.len() > ENOUGH {
+            break;
+        }
+    }
+}
+
+fn compare_programs(seed: u64, rounds: u64, report: &mut Report) {
+    let mut processes = processes();
+    let mut random = Random::new(seed ^ 1 << 32);
+    if processes.clauses.is_empty() {
+        println!("skipped: the clause program (CLAUSES is not set)");
+    } else {
+        (0..rounds).for_each(|_| programs::clauses(&mut random, &mut processes, report));
+    }
+    if processes.settings.is_empty() {
+        println!("skipped: the settings program (SETTINGS is not set)");
+    } else {
+        (0..rounds).for_each(|_| programs::settings(&mut random, &mut processes, report));
+    }
+}
+
+fn try_demand(seed: u64, rounds: u64, report: &mut Report) {
+    let mut of: Vec<(u64, Box<dyn Library>)> = vec![(rounds, Box::new(Plain))];
+    match library() {
+        // a call through the pipe takes longer
+        Some(library) => of.push((rounds / 3, Box::new(library))),
+        None => {
+            println!("skipped: demand 3 on the library (SERVER is not set); it is tried on the plain implementation")
+        }
+    }
+    for (rounds, mut library) in of {
+        let mut random = Random::new(seed ^ 2 << 32);
+        for _ in 0..rounds {
+            demand::small_table(&mut random, &mut *library, report);
+            demand::any_table(&mut random, &mut *library, report);
+        }
+    }
+}
+
+fn try_solvers(seed: u64, rounds: u64, report: &mut Report) {
+    let (Some(names), Some(folder)) = (words("SOLVERS"), words("FOLDER")) else {
+        println!("skipped: solvers (SOLVERS or FOLDER is not set)");
+        return;
+    };
+    let solvers: Vec<Solver> =
+        names.into_iter().map(|command| Solver { command, folder: PathBuf::from(&folder[0]) }).collect();
+    let mut library: Box<dyn Library> = match library() {
+        Some(library) => Box::new(library),
+        None => {
+            println!("solvers: the plain implementation decodes (SERVER is not set)");
+            Box::new(Plain)
+        }
+    };
+    let processes = processes();
+    let mut programs: Box<dyn Programs> = if processes.clauses.is_empty() || processes.settings.is_empty() {
+        println!("solvers: the plain implementation stands for the programs (CLAUSES or SETTINGS is not set)");
+        Box::new(Plain)
+    } else {
+        Box::new(processes)
+    };
+    let mut random = Random::new(seed ^ 3 << 32);
+    for _ in 0..rounds {
+        solvers::round(&mut random, &solvers, &mut *library, &mut *programs, report);
+    }
+}
+
+fn finish(report: &Report) -> ExitCode {
+    for difference in report.differences.iter().take(5) {
+        println!("DIFFERENCE {difference}");
+    }
+    // without a library there is nothing that refuses
+    let rare = if words("SERVER").is_some() { report.rare(OFTEN) } else { vec![] };
+    if !rare.is_empty() {
+        println!("refusals {rare:?} occurred less than {OFTEN} times: more rounds are needed");
+    }
+    println!("harness: {} comparisons, {} differences", report.comparisons(), report.differences.len());
+    if report.differences.is_empty() && rare.is_empty() && report.comparisons() > 0 {
+        ExitCode::SUCCESS
+    } else {
+        ExitCode::FAILURE
+    }
+}

@@ -1,0 +1,25 @@
+//! What is known of one row, and a refusal: the two kinds of answer that every implementation shares.
+
+/// A row's record, as `fordrambler_record` in include/fordrambler.h.
+#[derive(Clone, Copy, Debug, Default, PartialEq, Eq)]
+#[repr(C)]
+pub struct Record {
+    pub sort: u32,
+    pub width: u32,
+    pub denominator: u32,
+    pub first_slot: u32,
+    pub slot_count: u32,
+}
+
+/// A refusal's number and its place.
+#[derive(Clone, Copy, Debug, PartialEq, Eq)]
+pub struct Refusal {
+    pub number: u32,
+    pub place: u32,
+}
+
+/// The refusal of this number at this place.
+pub fn refuse<T>(number: u32, place: usize) -> Result<T, Refusal> {
+    let place = u32::try_from(place).expect("a place is a 32-bit number");
+    Err(Refusal { number, place })
+}
