@@ -5,15 +5,10 @@ logs=target
 . ../tools/machine.sh
 flags="-std=c11 -D_POSIX_C_SOURCE=200809L -O2 -Wall -Wextra -Werror -I$root/include"
 
-# Builds the server over the proved library and sets SERVER to its command. Where there is no such crate it says so; a crate that can't be
-# built is a failure; a missing compiler ends the run with status 2.
+# Builds the server over the proved library and sets SERVER to its command. A missing compiler ends the run with status 2.
 find_library() {
     local archive=$root/target/staticlib/libfordrambler_c.a compiler=gcc
     SERVER=
-    if [ ! -d "$root/crates/fordrambler_c" ]; then
-        echo "harness: the library is left out: there is no crate fordrambler_c yet"
-        return
-    fi
     if command -v rt >/dev/null; then
         (cd "$root" && rt staticlib fordrambler_c) >target/staticlib.log 2>&1 ||
             { tail -n 5 target/staticlib.log; echo "harness: rt staticlib fordrambler_c failed"; return 1; }
@@ -31,8 +26,7 @@ find_library() {
     SERVER="$(emulator) $PWD/target/server"
 }
 
-# Sets CLAUSES and SETTINGS to the commands of the two programs. Where there is no such crate it says so; a crate whose program isn't built
-# is a failure.
+# Sets CLAUSES and SETTINGS to the commands of the two programs, which must be built.
 find_programs() {
     CLAUSES='' SETTINGS=''
     find_program clauses && CLAUSES=$found && find_program settings && SETTINGS=$found
@@ -41,10 +35,6 @@ find_programs() {
 find_program() { # NAME
     local runner
     found=
-    if [ ! -d "$root/crates/$1" ]; then
-        echo "harness: the program $1 is left out: there is no crate $1 yet"
-        return
-    fi
     if [ ! -x "$root/target/bin/$1" ]; then
         echo "harness: target/bin/$1 is not there; rt check $1 builds it"
         return 1
