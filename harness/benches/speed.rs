@@ -1,54 +1,53 @@
 //! Times the library's calls against the plain implementation and against a copy of as many bytes, in one run. Buffers are not cleared
-//! between calls. Nothing is asserted. SERVER is the command of the server that makes the library's calls, as harness/bench sets it.
+//! between calls. Nothing is asserted. SERVER is the command of the server that makes the library's calls; CLAUSES and
+//! PLAIN_CLAUSES are those of the clause program and of the plain implementation as one, as harness/bench sets them.
 
 use harness::compare::request::{Buffers, Request};
-use harness::generate::tables::row;
-use harness::library::Library;
+use harness::generate::tables::{products, row};
+use harness::library::{Library, Programs};
 use harness::piped::Piped;
 use harness::plain::acceptance::{accept, Sheet};
 use harness::plain::calls::extend;
 use harness::plain::{lent, print, programs};
+use harness::processes::Processes;
 use harness::record::Record;
 use std::hint::black_box;
 use std::time::Instant;
 
-/// How long each measurement goes on, about.
-const SECONDS: f64 = 0.3;
+/// How long one batch of calls goes on, about, and how many batches there are; the fastest counts.
+const SECONDS: f64 = 0.1;
+const BATCHES: usize = 5;
+
+fn fastest(batch: impl FnMut() -> f64) -> f64 {
+    std::iter::repeat_with(batch).take(BATCHES).fold(f64::INFINITY, f64::min)
+}
 
 /// Nanoseconds of one call.
 fn time<T>(mut call: impl FnMut() -> T) -> f64 {
     black_box(call());
-    let mut calls = 0;
-    let began = Instant::now();
-    while began.elapsed().as_secs_f64() < SECONDS {
-        black_box(call());
-        calls += 1;
-    }
-    began.elapsed().as_secs_f64() * 1e9 / f64::from(calls)
+    fastest(|| {
+        let mut calls = 0;
+        let began = Instant::now();
+        while began.elapsed().as_secs_f64() < SECONDS {
+            black_box(call());
+            calls += 1;
+        }
+        began.elapsed().as_secs_f64() * 1e9 / f64::from(calls)
+    })
 }
 
 /// Nanoseconds of one call of the library, as often as the plain call fits the time.
 fn time_library(library: &mut Piped, request: &Request, plain: f64) -> f64 {
     library.times = (SECONDS * 1e9 / plain).clamp(1.0, 1e6) as u32;
-    request.make(library);
-    library.nanoseconds as f64 / f64::from(library.times)
+    fastest(|| {
+        request.make(library);
+        library.nanoseconds as f64 / f64::from(library.times)
+    })
 }
 
 fn copy(bytes: usize) -> f64 {
     let (from, mut to) = (vec![1u8; bytes], vec![0u8; bytes]);
     time(|| black_box(&mut to).copy_from_slice(black_box(&from)))
-}
-
-/// Two unknowns of 24 bits, products of 48 bits, and a comparison.
-fn products(number: u16) -> Vec<u8> {
-    let unknown = row(0x03, 24, 0, 0, 1);
-    let product = row(0x22, 0, 0, 1, 0);
-    [unknown, unknown]
-        .into_iter()
-        .chain((0..number).map(|_| product))
-        .chain([row(0x30, 0, number, 0, 0)])
-        .flatten()
-        .collect()
 }
 
 struct Bench {
@@ -155,23 +154,28 @@ impl Bench {
     }
 }
 
-/// The clause program's text, by the plain implementation; a process is timed with its start.
+/// A program's start, on a text that it refuses at once, and how fast it makes a clause text behind that.
+fn time_program(command: &str, input: &[u8], bytes: usize) -> (f64, f64) {
+    let words = command.split_whitespace().map(String::from).collect();
+    let mut program = Processes { clauses: words, settings: vec![] };
+    let start = time(|| program.clauses(b"-"));
+    let all = time(|| program.clauses(input));
+    (start / 1e3, bytes as f64 / (all - start) * 1e3)
+}
+
+/// The clause program and the plain implementation as a program, both as processes.
 fn clause_text() {
-    let unknowns = row(0x03, 11, 0, 0, 1);
-    let table = [unknowns, unknowns, row(0x22, 0, 0, 1, 0), row(0x30, 0, 2, 0, 0)].concat();
+    let unknown = row(0x03, 11, 0, 0, 1);
+    let table = [unknown, unknown, row(0x22, 0, 0, 1, 0), row(0x30, 0, 2, 0, 0)].concat();
     let input = print::lines(&table).into_bytes();
     let bytes = programs::clauses(&input).len();
-    let plain = time(|| programs::clauses(&input));
-    println!("clause text of {bytes} bytes: plain {:.1} MB/s", bytes as f64 / plain * 1e3);
-    let command = std::env::var("CLAUSES").unwrap_or_default();
-    let words: Vec<String> = command.split_whitespace().map(String::from).collect();
-    if words.is_empty() {
-        println!("clause text: the program is not there, so it is not timed");
+    let [Ok(program), Ok(plain)] = ["CLAUSES", "PLAIN_CLAUSES"].map(std::env::var) else {
+        println!("clause text: CLAUSES or PLAIN_CLAUSES is not set, so nothing is timed");
         return;
-    }
-    let mut program = harness::processes::Processes { clauses: words, settings: vec![] };
-    let process = time(|| harness::library::Programs::clauses(&mut program, &input));
-    println!("clause text: the program, its start included, {:.1} MB/s", bytes as f64 / process * 1e3);
+    };
+    let ((start, speed), (plain_start, plain_speed)) =
+        (time_program(&program, &input, bytes), time_program(&plain, &input, bytes));
+    println!("clause text of {bytes} bytes   {speed:6.1} MB/s  plain {plain_speed:6.1} MB/s  library/plain {:6.2}  (time, behind the start: {start:.0} us, plain {plain_start:.0} us)", plain_speed / speed);
 }
 
 fn main() {

@@ -60,6 +60,7 @@ fn compare_calls(seed: u64, rounds: u64, report: &mut Report) {
         println!("skipped: calls of the library (SERVER is not set)");
         return;
     };
+    calls::largest(&mut library, report);
     let mut random = Random::new(seed);
     for _ in 0..rounds {
         calls::round(&mut random, &mut library, report);

@@ -2,9 +2,11 @@
 
 use super::any_table;
 use super::request::{Buffers, Request};
+use crate::generate::tables::products;
 use crate::generate::{enough, length, models, texts, values};
 use crate::library::{Library, Plain};
 use crate::plain::acceptance::{accept, Counts, Sheet};
+use crate::plain::calls::extend;
 use crate::plain::lines::ROOM;
 use crate::random::Random;
 use crate::record::Record;
@@ -47,6 +49,32 @@ pub fn round(random: &mut Random, library: &mut dyn Library, report: &mut Report
     for request in of_text(random, &table, sheet.as_ref()) {
         compare(&request, library, report);
     }
+}
+
+/// Compares the calls of one table on 256 rows that want 19 million slots: a model of it, and one with a bit turned.
+pub fn largest(library: &mut dyn Library, report: &mut Report) {
+    let table = products(253);
+    let sheet = accept(&table).expect("the table passes");
+    let (rows, slots, variables) = (sheet.rows.len(), sheet.counts.slots as usize, sheet.counts.variables as usize);
+    let values = vec![4_000_000, 3_000_000];
+    let (model, truth) = extend(&table, &values, variables).expect("the values fit");
+    assert!(truth, "the values meet the table");
+    let mut turned = model.clone();
+    turned[variables / 2] ^= 1;
+    let table = || table.clone();
+    let buffers = || Buffers { records: vec![RECORD; rows], map: vec![SLOT; 48 * rows], slots: vec![SLOT; slots] };
+    let decode = |model| Request::Decode { table: table(), buffers: buffers(), model, values: vec![LONG; 2] };
+    let requests = [
+        Request::Check { table: table(), records: vec![RECORD; rows] },
+        Request::Measure { table: table() },
+        Request::Write { table: table(), buffers: buffers() },
+        Request::RowClauses { table: table(), slots: vec![SLOT; slots], row: 254 },
+        Request::Evaluate { table: table(), values: values.clone(), results: vec![LONG; rows] },
+        Request::Extend { table: table(), values, model: vec![BYTE; variables] },
+        decode(model),
+        decode(turned),
+    ];
+    requests.iter().for_each(|request| compare(request, library, report));
 }
 
 /// The rows and counts that buffers are made for; those of a refused table are anything.

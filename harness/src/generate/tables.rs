@@ -52,6 +52,18 @@ pub fn row(kind: u8, p: u8, x: u16, y: u16, z: u16) -> [u8; 8] {
     [kind, p, a, b, c, d, e, f]
 }
 
+/// Two unknowns of 24 bits, so many products of 48 bits, and a comparison: 253 products make 256 rows and 19 million slots.
+pub fn products(number: u16) -> Vec<u8> {
+    let unknown = row(0x03, 24, 0, 0, 1);
+    let product = row(0x22, 0, 0, 1, 0);
+    [unknown, unknown]
+        .into_iter()
+        .chain((0..number).map(|_| product))
+        .chain([row(0x30, 0, number, 0, 0)])
+        .flatten()
+        .collect()
+}
+
 /// A number constant.
 pub fn constant(numerator: i32, denominator: u16) -> [u8; 8] {
     let numerator = numerator as u32;
