@@ -1,11 +1,12 @@
 -- What the definitions of the lines say at each turn of a loop. Assumes nothing.
-use mathlib.Core.Path.{_≡_, refl, ap}
-use mathlib.Core.Bool.{Bool, true, false, _&&_, false≢true, and-eq-true-iff}
+use mathlib.Core.Path.{_≡_, refl, sym, ap, _∙_}
+use mathlib.Core.Bool.{Bool, true, false, _&&_, false≢true, and-comm, and-assoc, and-false, and-eq-true-iff}
 use mathlib.Core.List.{List, [], _∷_, _++_}
 use Prim.Native.Nat.{ℕ, zero, suc, _+_, _*_, _-_, _%_, _≤_, _<_}
 use native.Mathlib.Nat.{le-refl}
 use native.Mathlib.Numerals.{add-one}
 use native.Mathlib.Omega.{arith}
+use borrow.Author.Tests.{ltb-true, lt-ltb}
 use lib.Dec.{ltb, eqb}
 use lib.ListN.{length, getD, take, drop, length-drop, drop-of-length-le}
 use lib.Seq.{drop-cons, drop-drop, getD-drop, take-all}
@@ -17,30 +18,41 @@ use Rattle.sheet.specs.Texts.{nibble, beginsLine, bytesIn, tableIn, lines, line
 pub rest-all : (at : ℕ) (t : List ℕ) → take (length t - at) (drop at t) ≡ drop at t
 rest-all at t = take-all (length t - at) (drop at t) (rw length-drop (le-refl (length t - at)))
 
+-- ---- two nibbles are below 16 if the larger is
+
+larger-below : (a b : ℕ) (t : Bool) → ltb b 16 ≡ t → a ≤ b → t ≡ (ltb a 16 && t)
+larger-below a b true e h =
+    let k = ltb-true b 16 e in
+    let l : a < 16 = omega arith in
+    rw (lt-ltb a 16 l)
+larger-below a b false e h = sym (and-false (ltb a 16))
+
+pub below-larger : (a b : ℕ) → a ≤ b → ltb b 16 ≡ (ltb a 16 && ltb b 16)
+below-larger a b h = larger-below a b (ltb b 16) refl h
+
+pub below-first : (a b : ℕ) → b ≤ a → ltb a 16 ≡ (ltb a 16 && ltb b 16)
+below-first a b h = below-larger b a h ∙ and-comm (ltb b 16) (ltb a 16)
+
 -- ---- a line, digit by digit
 
 module _ (text : List ℕ) (i : ℕ) where
-  pub begins-more : i < 16 → i < length text
+  begins-more : i < 16 → i < length text
       → beginsLine (16 - i) (drop i text) ≡ (ltb (nibble (getD text i 0)) 16 && beginsLine (16 - (i + 1)) (drop (i + 1) text))
   unfolding beginsLine
   begins-more h k =
       let n : 16 - i ≡ suc (16 - (i + 1)) = omega arith in
       rw (n, drop-cons text i 0 k, add-one)
 
+  -- the next digit's nibble n joins the largest one, which is then m
+  pub begins-next : (most n m : ℕ) → n ≡ nibble (getD text i 0) → ltb m 16 ≡ (ltb most 16 && ltb n 16) → i < 16 → i < length text
+      → (ltb m 16 && beginsLine (16 - (i + 1)) (drop (i + 1) text)) ≡ (ltb most 16 && beginsLine (16 - i) (drop i text))
+  begins-next most n m e d h k = rw (begins-more h k, d, e) (and-assoc (ltb most 16) (ltb (nibble (getD text i 0)) 16) (beginsLine (16 - (i + 1)) (drop (i + 1) text)))
+
   pub begins-last : i ≡ 16 → i < length text → beginsLine (16 - i) (drop i text) ≡ eqb (getD text i 0) 10
   unfolding beginsLine
   begins-last e k =
       let n : 16 - i ≡ zero = omega arith in
       rw (n, drop-cons text i 0 k)
-
-begins-none : (k : ℕ) → beginsLine k [] ≡ false
-unfolding beginsLine
-begins-none zero = refl
-begins-none (suc k) = refl
-
--- the text ends too early
-pub begins-short : (k i : ℕ) (text : List ℕ) → length text ≤ i → beginsLine k (drop i text) ≡ false
-begins-short k i text h = rw (drop-of-length-le text {i = i} h) (begins-none k)
 
 -- a line's length
 pub begins-long : (k : ℕ) (text : List ℕ) → beginsLine k text ≡ true → suc k ≤ length text
@@ -49,6 +61,14 @@ begins-long zero [] e = absurd (false≢true e)
 begins-long zero (b ∷ text) e = omega arith
 begins-long (suc k) [] e = absurd (false≢true e)
 begins-long (suc k) (b ∷ text) e = omega (arith, begins-long k text (and-eq-true-iff (ltb (nibble b) 16) (beginsLine k text) .0 e .1))
+
+-- the text is too short for a line
+short : (text : List ℕ) (t : Bool) → beginsLine 16 text ≡ t → length text < 17 → false ≡ t
+short text true e h = absurd (omega (arith, begins-long 16 text e))
+short text false e h = refl
+
+pub begins-short : (text : List ℕ) → length text < 17 → false ≡ beginsLine 16 text
+begins-short text h = short text (beginsLine 16 text) refl h
 
 -- ---- line by line: n lines are passed, and the text behind them begins at `at`
 
