@@ -3,16 +3,16 @@ use mathlib.Core.Path.{_≡_, refl, sym, ap, _∙_}
 use mathlib.Core.Bool.{false}
 use mathlib.Core.List.{List, _++_}
 use Prim.Native.Nat.{ℕ, _≤_}
-use native.Mathlib.Omega.{arith}
 use lib.ListN.{length, drop}
 use lib.Seq.{take-at}
 use lib.IntN.{ℤ}
 use Rattle.circuit.specs.declared.Counts.{Counts}
-use Rattle.sheet.specs.declared.Measured.the-variants.{Counted, Refused}
+use Rattle.sheet.specs.declared.LinesFound.{LinesFound}
 use Rattle.sheet.specs.Acceptance.{Outcome, refused, accepted, Sheet, accept}
-use Rattle.sheet.specs.Calls.{_>>=_, left, sheetSlots, measuring}
-use Rattle.sheet.specs.Texts.{Lines, readLines, dimacs, refusedLine}
+use Rattle.sheet.specs.Calls.{_>>=_, _giving_, left, sheetSlots}
+use Rattle.sheet.specs.Texts.{readLines, dimacs, refusedLine}
 use Rattle.sheet.specs.Programs.{inputOf, sheetIn, printed, clauseProgram}
+use Rattle.sheet.proofs.Called.{same-accepted, bound-accepts, giving-refuses}
 use Rattle.promise.proofs.Counts.{counted}
 use Rattle.table.proofs.Answers.{left-accepted}
 use Rattle.print.proofs.Pieces.{dimacs-joined}
@@ -20,14 +20,6 @@ use Rattle.program.specs.Sheets.{sheetRead}
 use Rattle.program.proofs.Tables.{read-tells}
 use Rattle.program.proofs.Cut.{sheet-cut}
 use Rattle.clause_text.specs.Printing.{dimacsText}
-
-measured-refused : (o : Outcome Sheet) {n p : ℕ} → Refused n p ≡ measuring o → o ≡ refused n p
-measured-refused (refused m q) e = cc
-measured-refused (accepted sheet) e = let z : _≡_ {A = ℕ} 0 1 = cc in absurd (omega arith)
-
-measured-counted : (o : Outcome Sheet) {k : Counts} → Counted k ≡ measuring o → (sheet : Sheet) × (o ≡ accepted sheet) × (k ≡ sheet .counts)
-measured-counted (refused m q) e = let z : _≡_ {A = ℕ} 0 1 = cc in absurd (omega arith)
-measured-counted (accepted sheet) e = (sheet, refl, cc)
 
 -- the slots that are counted are those that are written
 slots-printed : (table : List ℕ) (sheet : Sheet) → accept table ≡ accepted sheet → (slots₀ : List ℤ)
@@ -47,7 +39,7 @@ module _ (input : List ℕ) where
   unfolding clauseProgram
   output-is = by (readLines false (inputOf input) 2048)
     where
-      by : (o : Outcome Lines) → printed (o >>= (λ l. sheetIn (inputOf input) l >>= text)) ≡ printed ((o >>= sheetIn (inputOf input)) >>= text)
+      by : (o : Outcome LinesFound) → printed (o >>= (λ l. sheetIn (inputOf input) l >>= text)) ≡ printed ((o >>= sheetIn (inputOf input)) >>= text)
       by (refused n p) = refl
       by (accepted l) = refl
 
@@ -55,18 +47,22 @@ module _ (input : List ℕ) where
   pub uncut : clauseProgram input ≡ printed (sheetRead false input >>= text)
   uncut = output-is ∙ ap (λ (o : Outcome Sheet). printed (o >>= text)) (sheet-cut false input)
 
-  pub refusal-printed : {n p : ℕ} → Refused n p ≡ measuring outcome → clauseProgram input ≡ refusedLine n p
-  refusal-printed e = output-is ∙ ap (λ (o : Outcome Sheet). printed (o >>= text)) (measured-refused outcome e)
+  -- by what is counted
+  abbrev counts : Outcome Counts
+  counts = outcome giving λ sheet. sheet .counts
 
-  module _ {k : Counts} (e : Counted k ≡ measuring outcome) where
+  pub refusal-printed : {n p : ℕ} → refused n p ≡ counts → clauseProgram input ≡ refusedLine n p
+  refusal-printed e = output-is ∙ ap (λ (o : Outcome Sheet). printed (o >>= text)) (giving-refuses outcome (λ sheet. sheet .counts) (sym e))
+
+  module _ {k : Counts} (e : accepted k ≡ counts) where
     pub slots-fit : k .slots ≤ 16384
     slots-fit =
-        let (sheet, is, same) = measured-counted outcome e in
-        rw same (read-tells false (inputOf input) sheet is .2)
+        let (sheet, is, same) = bound-accepts outcome (sym e) in
+        rw (← same-accepted same) (read-tells false (inputOf input) sheet is .2)
 
     pub clauses-printed : (slots₀ : List ℤ) {slots : List ℤ} → slots ≡ left outcome sheetSlots slots₀ → clauseProgram input ≡ dimacsText k slots
     clauses-printed slots₀ {slots} f =
-        let (sheet, is, same) = measured-counted outcome e in
+        let (sheet, is, same) = bound-accepts outcome (sym e) in
         let (table, accepts, fits) = read-tells false (inputOf input) sheet is in
         output-is ∙ ap (λ (o : Outcome Sheet). printed (o >>= text)) is
-        ∙ sym (ap (λ (c : Counts). dimacsText c slots) same ∙ ap (dimacsText (sheet .counts)) (f ∙ sym (left-accepted sheetSlots slots₀ is)) ∙ slots-printed table sheet accepts slots₀)
+        ∙ sym (ap (λ (c : Counts). dimacsText c slots) (sym (same-accepted same)) ∙ ap (dimacsText (sheet .counts)) (f ∙ sym (left-accepted sheetSlots slots₀ is)) ∙ slots-printed table sheet accepts slots₀)

@@ -4,7 +4,7 @@ ghost use mathlib.Core.Bool.{false};
 ghost use Prim.Native.Nat.{_+_, _*_, _≤_};
 ghost use lib.ListN.{length};
 ghost use Rattle.frame.specs.Frame.{front};
-ghost use Rattle.sheet.specs.Calls.{left, sheetSlots, measuring};
+ghost use Rattle.sheet.specs.Calls.{_giving_, left, sheetSlots, counted};
 ghost use Rattle.sheet.specs.Programs.{clauseProgram};
 ghost use Rattle.program.specs.Sheets.{sheetOf, sheetRead};
 ghost use Rattle.clause_text.specs.Printing.{dimacsText};
@@ -15,7 +15,7 @@ use sheet::Measured;
 // What the table counts whose slots are written, or its refusal.
 fn write_clauses(table: &[u8], map: &mut [i32], slots: &mut [i32]) -> Measured
     requires { ⌜ 12288 ≤ length (now map) ⌝ ∗ ⌜ length (now slots) ≡ 16384 ⌝ }
-    ensures answer { λ m. ⌜ m ≡ measuring (sheetOf (now (table .entry))) ⌝ }
+    ensures answer { λ m. ⌜ counted m ≡ (sheetOf (now (table .entry)) giving λ sheet. sheet .counts) ⌝ }
     ensures slots { λ _. ⌜ now (slots .exit) ≡ left (sheetOf (now (table .entry))) sheetSlots (now (slots .entry)) ⌝ }
 {
     let s = program::write_sheet(table, map, slots);
@@ -29,7 +29,7 @@ fn write_clauses(table: &[u8], map: &mut [i32], slots: &mut [i32]) -> Measured
 // The same of the table in a text's lines.
 fn clauses_in(text: &[u8], map: &mut [i32], slots: &mut [i32]) -> Measured
     requires { ⌜ 12288 ≤ length (now map) ⌝ ∗ ⌜ length (now slots) ≡ 16384 ⌝ }
-    ensures answer { λ m. ⌜ m ≡ measuring (sheetRead false (now (text .entry))) ⌝ }
+    ensures answer { λ m. ⌜ counted m ≡ (sheetRead false (now (text .entry)) giving λ sheet. sheet .counts) ⌝ }
     ensures slots { λ _. ⌜ now (slots .exit) ≡ left (sheetRead false (now (text .entry))) sheetSlots (now (slots .entry)) ⌝ }
 {
     let mut table = [0u8; 2048];

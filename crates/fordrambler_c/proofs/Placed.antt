@@ -23,16 +23,16 @@ module _ (table : List ℕ) (slots : List ℤ) (row first count : ℕ) {f : Foun
       (test-numbered 22 (rowCount sheet) (leb (rowCount sheet) row) (accepted (recordAt (sheet .records) row)) (omega arith) tt))
 
   -- at a refusal the lent numbers stay
-  pub stays : (f .number ≡ 0 → ⊥) → PlacesRow table slots row first count (f .number) first count (f .place)
+  pub stays : (f .number ≡ 0 → ⊥) → PlacesRow table slots row first count (f .number) (f .place) first count
   stays z = by (rowClauses table (length slots) row) refl e
     where
-      by : (o : Outcome Record) → rowClauses table (length slots) row ≡ o → f ≡ asFound o → PlacesRow table slots row first count (f .number) first count (f .place)
+      by : (o : Outcome Record) → rowClauses table (length slots) row ≡ o → f ≡ asFound o → PlacesRow table slots row first count (f .number) (f .place) first count
       by (refused n p) is g = rw g (record { first = rw is; count = rw is; says = rw is; at = rw is })
       by (accepted r) is g = absurd (z (ap (λ (t : Found). t .number) g))
 
-  pub places : f .number ≡ 0 → PlacesRow table slots row first count 0 (f .first) (f .slots) (f .place)
+  pub places : f .number ≡ 0 → PlacesRow table slots row first count 0 (f .place) (f .first) (f .slots)
   places z = by (rowClauses table (length slots) row) refl e
     where
-      by : (o : Outcome Record) → rowClauses table (length slots) row ≡ o → f ≡ asFound o → PlacesRow table slots row first count 0 (f .first) (f .slots) (f .place)
+      by : (o : Outcome Record) → rowClauses table (length slots) row ≡ o → f ≡ asFound o → PlacesRow table slots row first count 0 (f .place) (f .first) (f .slots)
       by (refused n p) is g = let k : n ≡ 0 = sym (ap (λ (t : Found). t .number) g) ∙ z in let m = rw is at numbered in absurd (omega arith)
       by (accepted r) is g = rw g (record { first = rw is; count = rw is; says = rw is; at = rw is })

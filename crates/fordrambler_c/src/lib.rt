@@ -1,13 +1,12 @@
 // The library for C: each call of the front door as an exported function, which answers the refusal's number, 0 on success. include/fordrambler.h
-// declares them. A slice is two parameters of C, its pointer and its length.
+// declares them. A slice is two parameters of C, its pointer and its length. Each function's contract is one relation of specs/Told.antt; that
+// no two outcomes meet it is proved in proofs/Outcomes.antt.
 //
 // `fordrambler_check`, `fordrambler_write` and `fordrambler_decode` lend records and are proved by hand.
 ghost use mathlib.Core.Path.{_≡_};
-ghost use mathlib.Core.Bool.{true, false};
 ghost use Rattle.whole.specs.Bits.{bit};
-ghost use Rattle.sheet.specs.Calls.{said, told, numberOf, placeOf};
-ghost use Rattle.sheet.specs.Relations.{Checks, Measures, Writes, Evaluates, Extends, Decodes, ReadsLines, ReadsClaim};
-ghost use Rattle.fordrambler_c.specs.Told.{held, counted, found, claimed, tableBytes, Tells, HoldsCounts, HoldsEnd, PlacesRow};
+ghost use Rattle.sheet.specs.Calls.{numberOf, placeOf, said, counted, told, found, claimed};
+ghost use Rattle.fordrambler_c.specs.Told.{held, tableBytes, HoldsCounts, HoldsEnd, TellsCheck, TellsMeasure, TellsWrite, PlacesRow, TellsEvaluate, TellsExtend, TellsDecode, TellsLines, TellsLinesUntilEmpty, TellsClaim};
 use sheet::Answer;
 use sheet::ClaimRead;
 use sheet::Extended;
@@ -133,7 +132,7 @@ fn tell_claim(answer: ClaimRead, claim: &mut u8, place: &mut u32) -> u32
 
 #[no_mangle]
 pub extern "C" fn fordrambler_check(table: &[u8], records: &mut [Record], place: &mut u32) -> u32
-    ensures { λ number. ⌜ Tells said (λ a. Checks (now (table .entry)) (now (records .entry)) a (now (records .exit))) number (now (place .exit)) ⌝ }
+    ensures { λ number. ⌜ TellsCheck (now (table .entry)) (now (records .entry)) number (now (place .exit)) (now (records .exit)) ⌝ }
 {
     let a = fordrambler::check(table, records);
     tell(a, place)
@@ -148,7 +147,7 @@ pub extern "C" fn fordrambler_measure(
     slots: &mut u32,
     place: &mut u32,
 ) -> u32
-    ensures { λ number. ⌜ Tells counted (λ m. Measures (now (table .entry)) m × HoldsCounts m (now (variables .entry)) (now (clauses .entry)) (now (slots .entry)) (now (variables .exit)) (now (clauses .exit)) (now (slots .exit))) number (now (place .exit)) ⌝ }
+    ensures { λ number. ⌜ TellsMeasure (now (table .entry)) (now (variables .entry)) (now (clauses .entry)) (now (slots .entry)) number (now (place .exit)) (now (variables .exit)) (now (clauses .exit)) (now (slots .exit)) ⌝ }
 {
     let m = fordrambler::measure(table);
     tell_counts(m, variables, clauses, slots, place)
@@ -162,7 +161,7 @@ pub extern "C" fn fordrambler_write(
     slots: &mut [i32],
     place: &mut u32,
 ) -> u32
-    ensures { λ number. ⌜ Tells said (λ a. Writes (now (table .entry)) (now (records .entry)) (now (map .entry)) (now (slots .entry)) a (now (records .exit)) (now (map .exit)) (now (slots .exit))) number (now (place .exit)) ⌝ }
+    ensures { λ number. ⌜ TellsWrite (now (table .entry)) (now (records .entry)) (now (map .entry)) (now (slots .entry)) number (now (place .exit)) (now (records .exit)) (now (map .exit)) (now (slots .exit)) ⌝ }
 {
     let a = fordrambler::write(table, records, map, slots);
     tell(a, place)
@@ -178,7 +177,7 @@ pub extern "C" fn fordrambler_row_clauses(
     count: &mut usize,
     place: &mut u32,
 ) -> u32
-    ensures { λ number. ⌜ PlacesRow (now (table .entry)) (now (slots .entry)) row (now (first .entry)) (now (count .entry)) number (now (first .exit)) (now (count .exit)) (now (place .exit)) ⌝ }
+    ensures { λ number. ⌜ PlacesRow (now (table .entry)) (now (slots .entry)) row (now (first .entry)) (now (count .entry)) number (now (place .exit)) (now (first .exit)) (now (count .exit)) ⌝ }
 {
     let f = row_clauses::find(table, slots.len(), row);
     *place = f.place;
@@ -197,7 +196,7 @@ pub extern "C" fn fordrambler_evaluate(
     results: &mut [i64],
     place: &mut u32,
 ) -> u32
-    ensures { λ number. ⌜ Tells said (λ a. Evaluates (now (table .entry)) (now (values .entry)) (now (results .entry)) a (now (results .exit))) number (now (place .exit)) ⌝ }
+    ensures { λ number. ⌜ TellsEvaluate (now (table .entry)) (now (values .entry)) (now (results .entry)) number (now (place .exit)) (now (results .exit)) ⌝ }
 {
     let a = fordrambler::evaluate(table, values, results);
     tell(a, place)
@@ -212,7 +211,7 @@ pub extern "C" fn fordrambler_extend(
     truth: &mut u8,
     place: &mut u32,
 ) -> u32
-    ensures { λ number. ⌜ Tells told (λ a. Extends (now (table .entry)) (now (values .entry)) (now (model .entry)) a (now (model .exit)) × (now (truth .exit) ≡ held (told a) bit (now (truth .entry)))) number (now (place .exit)) ⌝ }
+    ensures { λ number. ⌜ TellsExtend (now (table .entry)) (now (values .entry)) (now (model .entry)) (now (truth .entry)) number (now (place .exit)) (now (model .exit)) (now (truth .exit)) ⌝ }
 {
     let a = fordrambler::extend(table, values, model);
     tell_truth(a, truth, place)
@@ -228,7 +227,7 @@ pub extern "C" fn fordrambler_decode(
     values: &mut [i64],
     place: &mut u32,
 ) -> u32
-    ensures { λ number. ⌜ Tells said (λ a. Decodes (now (table .entry)) (now (records .entry)) (now (map .entry)) (now (slots .entry)) (now (model .entry)) (now (values .entry)) a (now (records .exit)) (now (map .exit)) (now (slots .exit)) (now (values .exit))) number (now (place .exit)) ⌝ }
+    ensures { λ number. ⌜ TellsDecode (now (table .entry)) (now (records .entry)) (now (map .entry)) (now (slots .entry)) (now (model .entry)) (now (values .entry)) number (now (place .exit)) (now (records .exit)) (now (map .exit)) (now (slots .exit)) (now (values .exit)) ⌝ }
 {
     let a = fordrambler::decode(table, records, map, slots, model, values);
     tell(a, place)
@@ -242,7 +241,7 @@ pub extern "C" fn fordrambler_read_lines(
     table_read: &mut usize,
     place: &mut u32,
 ) -> u32
-    ensures { λ number. ⌜ Tells found (λ a. ReadsLines false (now (text .entry)) (now (table .entry)) a (now (table .exit)) × (now («table_read» .exit) ≡ held (found a) tableBytes (now («table_read» .entry)))) number (now (place .exit)) ⌝ }
+    ensures { λ number. ⌜ TellsLines (now (text .entry)) (now (table .entry)) (now («table_read» .entry)) number (now (place .exit)) (now (table .exit)) (now («table_read» .exit)) ⌝ }
 {
     let a = fordrambler::read_lines(text, table);
     let mut rest = 0;
@@ -260,7 +259,7 @@ pub extern "C" fn fordrambler_read_lines_until_empty(
     ended: &mut u8,
     place: &mut u32,
 ) -> u32
-    ensures { λ number. ⌜ Tells found (λ a. ReadsLines true (now (text .entry)) (now (table .entry)) a (now (table .exit)) × ((now («table_read» .exit) ≡ held (found a) tableBytes (now («table_read» .entry))) × HoldsEnd a (now (rest .entry)) (now (ended .entry)) (now (rest .exit)) (now (ended .exit)))) number (now (place .exit)) ⌝ }
+    ensures { λ number. ⌜ TellsLinesUntilEmpty (now (text .entry)) (now (table .entry)) (now («table_read» .entry)) (now (rest .entry)) (now (ended .entry)) number (now (place .exit)) (now (table .exit)) (now («table_read» .exit)) (now (rest .exit)) (now (ended .exit)) ⌝ }
 {
     let a = fordrambler::read_lines_until_empty(text, table);
     tell_lines(a, table_read, rest, ended, place)
@@ -275,7 +274,7 @@ pub extern "C" fn fordrambler_read_claim(
     claim: &mut u8,
     place: &mut u32,
 ) -> u32
-    ensures { λ number. ⌜ Tells claimed (λ a. ReadsClaim (now (text .entry)) variables (now (model .entry)) a (now (model .exit)) × (now (claim .exit) ≡ held (claimed a) bit (now (claim .entry)))) number (now (place .exit)) ⌝ }
+    ensures { λ number. ⌜ TellsClaim (now (text .entry)) variables (now (model .entry)) (now (claim .entry)) number (now (place .exit)) (now (model .exit)) (now (claim .exit)) ⌝ }
 {
     let a = fordrambler::read_claim(text, variables, model);
     tell_claim(a, claim, place)

@@ -8,8 +8,8 @@ ghost use lib.Dec.{ltb, eqb};
 ghost use lib.ListN.{length};
 ghost use Rattle.whole.specs.Tests.{if_then_else_};
 ghost use Rattle.frame.specs.Frame.{front};
-ghost use Rattle.sheet.specs.Calls.{left};
-ghost use Rattle.sheet.specs.Texts.{nibble as Texts·nibble, beginsLine, bytesIn, tableIn, linesFrom, readLines, linesAnswer};
+ghost use Rattle.sheet.specs.Calls.{left, found};
+ghost use Rattle.sheet.specs.Texts.{nibble as Texts·nibble, beginsLine, bytesIn, tableIn, linesFrom, readLines};
 ghost use Rattle.lines.specs.Found.{Within};
 
 // What a decimal digit stands for; 16 for any other byte.
@@ -80,7 +80,7 @@ fn ends(blank: bool, b: u8) -> bool
 
 // Judges the lines and writes nothing; a table has room for 256.
 fn judge(text: &[u8], blank: bool) -> LinesRead
-    ensures { λ r. ⌜ r ≡ linesAnswer (linesFrom 256 blank 0 (now (text .entry))) ⌝ ∗ ⌜ Within (now (text .entry)) r ⌝ }
+    ensures { λ r. ⌜ found r ≡ linesFrom 256 blank 0 (now (text .entry)) ⌝ ∗ ⌜ Within (now (text .entry)) r ⌝ }
 {
     let mut rows = 0;
     let mut at = 0;
@@ -144,7 +144,7 @@ fn put_rows(table: &mut [u8], text: &[u8], rows: usize)
 
 // The lines of the text as rows at the front of the table, to the end of the text or, where `blank` is true, to an empty line.
 fn read(text: &[u8], table: &mut [u8], blank: bool) -> LinesRead
-    ensures answer { λ r. ⌜ r ≡ linesAnswer (readLines blank (now (text .entry)) (length (now (table .entry)))) ⌝ }
+    ensures answer { λ r. ⌜ found r ≡ readLines blank (now (text .entry)) (length (now (table .entry))) ⌝ }
     ensures table { λ _. ⌜ now (table .exit) ≡ left (readLines blank (now (text .entry)) (length (now (table .entry)))) (λ l. tableIn (l .rows) (now (text .entry))) (now (table .entry)) ⌝ }
 {
     if table.len() < 2048 {
@@ -160,7 +160,7 @@ fn read(text: &[u8], table: &mut [u8], blank: bool) -> LinesRead
 
 // Reads to the end of the text.
 pub fn read_lines(text: &[u8], table: &mut [u8]) -> LinesRead
-    ensures answer { λ r. ⌜ r ≡ linesAnswer (readLines false (now (text .entry)) (length (now (table .entry)))) ⌝ }
+    ensures answer { λ r. ⌜ found r ≡ readLines false (now (text .entry)) (length (now (table .entry))) ⌝ }
     ensures table { λ _. ⌜ now (table .exit) ≡ left (readLines false (now (text .entry)) (length (now (table .entry)))) (λ l. tableIn (l .rows) (now (text .entry))) (now (table .entry)) ⌝ }
 {
     read(text, table, false)
@@ -168,7 +168,7 @@ pub fn read_lines(text: &[u8], table: &mut [u8]) -> LinesRead
 
 // Reads to an empty line, even as line 256; without one, to the end of the text.
 pub fn read_lines_until_empty(text: &[u8], table: &mut [u8]) -> LinesRead
-    ensures answer { λ r. ⌜ r ≡ linesAnswer (readLines true (now (text .entry)) (length (now (table .entry)))) ⌝ }
+    ensures answer { λ r. ⌜ found r ≡ readLines true (now (text .entry)) (length (now (table .entry))) ⌝ }
     ensures table { λ _. ⌜ now (table .exit) ≡ left (readLines true (now (text .entry)) (length (now (table .entry)))) (λ l. tableIn (l .rows) (now (text .entry))) (now (table .entry)) ⌝ }
 {
     read(text, table, true)

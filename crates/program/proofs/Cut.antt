@@ -9,9 +9,10 @@ use lib.Dec.{eqb, ltb}
 use lib.ListN.{take, drop}
 use lib.Seq.{getD-take}
 use Rattle.whole.specs.Tests.{if_then_else_}
+use Rattle.sheet.specs.declared.LinesFound.{LinesFound}
 use Rattle.sheet.specs.Acceptance.{Outcome, refused, accepted}
 use Rattle.sheet.specs.Calls.{_>>=_}
-use Rattle.sheet.specs.Texts.{nibble, beginsLine, bytesIn, tableIn, Lines, lines, linesFrom, readLines}
+use Rattle.sheet.specs.Texts.{nibble, beginsLine, bytesIn, tableIn, lines, linesFrom, readLines}
 use Rattle.sheet.specs.Programs.{inputOf, sheetIn}
 use Rattle.program.specs.Sheets.{sheetOf, sheetRead}
 use Rattle.program.proofs.Tables.{few-lines}
@@ -52,7 +53,7 @@ module _ (blank : Bool) (n : ℕ) where
       let all = b ∷ text in
       let ends = blank && eqb b 10 in
       ap (λ (u : Bool). if ends then lines n (17 * n + 1) true else if u then linesFrom more blank (n + 1) (drop 17 (take (suc k) all)) else refused 20 n) (begins-cut 16 (suc k) all h)
-      ∙ ap (λ (o : Outcome Lines). if ends then lines n (17 * n + 1) true else if beginsLine 16 all then o else refused 20 n) d
+      ∙ ap (λ (o : Outcome LinesFound). if ends then lines n (17 * n + 1) true else if beginsLine 16 all then o else refused 20 n) d
 
 lines-cut : (more : ℕ) (blank : Bool) (n k : ℕ) (text : List ℕ) → 17 * more < k → linesFrom more blank n (take k text) ≡ linesFrom more blank n text
 lines-cut zero blank n k text h = no-more-cut blank n k text (omega arith)
@@ -80,13 +81,13 @@ module _ (blank : Bool) (text : List ℕ) where
   unfolding readLines
   read-cut = lines-cut 256 blank 0 65536 text (omega arith)
 
-  pub found-cut : (l : Lines) → readLines blank text 2048 ≡ accepted l → sheetIn (inputOf text) l ≡ sheetIn text l
+  pub found-cut : (l : LinesFound) → readLines blank text 2048 ≡ accepted l → sheetIn (inputOf text) l ≡ sheetIn text l
   unfolding readLines
   found-cut l e = ap sheetOf (table-cut (l .rows) 65536 text (omega (arith, few-lines 256 blank 0 text l e)))
 
   pub sheet-cut : sheetRead blank (inputOf text) ≡ sheetRead blank text
-  sheet-cut = ap (λ (o : Outcome Lines). o >>= sheetIn (inputOf text)) read-cut ∙ by (readLines blank text 2048) refl
+  sheet-cut = ap (λ (o : Outcome LinesFound). o >>= sheetIn (inputOf text)) read-cut ∙ by (readLines blank text 2048) refl
     where
-      by : (o : Outcome Lines) → readLines blank text 2048 ≡ o → (o >>= sheetIn (inputOf text)) ≡ (o >>= sheetIn text)
+      by : (o : Outcome LinesFound) → readLines blank text 2048 ≡ o → (o >>= sheetIn (inputOf text)) ≡ (o >>= sheetIn text)
       by (refused n p) e = refl
       by (accepted l) e = found-cut l e

@@ -1,5 +1,5 @@
 -- The table that the reader of lines found, and the sheet that both programs take from it. Assumes nothing.
-use mathlib.Core.Path.{_≡_, refl, _∙_, subst}
+use mathlib.Core.Path.{_≡_, refl, sym, _∙_, subst}
 use mathlib.Core.Bool.{Bool, true, false, _&&_}
 use mathlib.Core.List.{List, [], _∷_}
 use Prim.Native.Nat.{ℕ, zero, suc, _+_, _*_, _≤_}
@@ -9,15 +9,13 @@ use lib.Dec.{eqb, ltb}
 use lib.ListN.{length, take, drop, length-append}
 use lib.Seq.{take-at}
 use Rattle.whole.specs.Tests.{if_then_else_}
-use Rattle.sheet.specs.declared.LinesRead.the-variants.{Read, Refused}
 use Rattle.sheet.specs.declared.LinesFound.{LinesFound}
 use Rattle.sheet.specs.Acceptance.{Outcome, refused, accepted, Sheet, accept}
 use Rattle.sheet.specs.Calls.{left}
-use Rattle.sheet.specs.Texts.{beginsLine, bytesIn, tableIn, Lines, lines, linesFrom, readLines, linesAnswer}
+use Rattle.sheet.specs.Texts.{beginsLine, bytesIn, tableIn, lines, linesFrom, readLines}
 use Rattle.sheet.specs.Programs.{sheetIn}
-use Rattle.sheet.proofs.Called.{bound-accepts, not-refused}
+use Rattle.sheet.proofs.Called.{refused-not, same-accepted, bound-accepts, not-refused}
 use Rattle.lines.proofs.Laws.{eight-bytes}
-use Rattle.lines.proofs.Answers.{answer-read, answer-refused}
 use Rattle.program.specs.Sheets.{sheetOf, sheetRead}
 
 length-table : (n : ℕ) (text : List ℕ) → length (tableIn n text) ≡ 8 * n
@@ -27,13 +25,10 @@ length-table (suc n) text = length-append (bytesIn 8 text) (tableIn n (drop 17 t
 
 -- ---- no more lines are found than there is room for
 
-found-here : {n rest : ℕ} {b : Bool} {l : Lines} → lines n rest b ≡ accepted l → l .rows ≡ n
+found-here : {n rest : ℕ} {b : Bool} {l : LinesFound} → lines n rest b ≡ accepted l → l .rows ≡ n
 found-here e = cc
 
-refused-not : {A : Type 0} {n p : ℕ} {l : Lines} → refused n p ≡ accepted l → A
-refused-not e = let z : _≡_ {A = ℕ} 0 1 = cc in absurd (omega arith)
-
-pub few-lines : (more : ℕ) (blank : Bool) (n : ℕ) (text : List ℕ) (l : Lines) → linesFrom more blank n text ≡ accepted l → l .rows ≤ n + more
+pub few-lines : (more : ℕ) (blank : Bool) (n : ℕ) (text : List ℕ) (l : LinesFound) → linesFrom more blank n text ≡ accepted l → l .rows ≤ n + more
 unfolding linesFrom
 few-lines zero blank n [] l e = omega (arith, found-here e)
 few-lines zero blank n (b ∷ text) l e = by (blank && eqb b 10) e
@@ -45,7 +40,7 @@ few-lines (suc more) blank n [] l e = omega (arith, found-here e)
 few-lines (suc more) blank n (b ∷ text) l e =
     by (blank && eqb b 10) (beginsLine 16 (b ∷ text)) (linesFrom more blank (n + 1) (drop 17 (b ∷ text))) (few-lines more blank (n + 1) (drop 17 (b ∷ text)) l) e
   where
-    by : (t u : Bool) (o : Outcome Lines) → (o ≡ accepted l → l .rows ≤ n + 1 + more) → (if t then lines n (17 * n + 1) true else if u then o else refused 20 n) ≡ accepted l
+    by : (t u : Bool) (o : Outcome LinesFound) → (o ≡ accepted l → l .rows ≤ n + 1 + more) → (if t then lines n (17 * n + 1) true else if u then o else refused 20 n) ≡ accepted l
         → l .rows ≤ n + suc more
     by true u o next f = omega (arith, found-here f)
     by false true o next f = omega (arith, next f)
@@ -54,12 +49,12 @@ few-lines (suc more) blank n (b ∷ text) l e =
 -- ---- what the answer of a reader that was lent 2,048 bytes tells
 
 module _ (blank : Bool) (text table : List ℕ) (h : length table ≡ 2048) where
-  pub lines-refused : (n p : ℕ) → Refused n p ≡ linesAnswer (readLines blank text (length table)) → sheetRead blank text ≡ refused n p
-  lines-refused n p e = let f = rw h at (answer-refused (readLines blank text (length table)) n p e) in rw f
+  pub lines-refused : (n p : ℕ) → refused n p ≡ readLines blank text (length table) → sheetRead blank text ≡ refused n p
+  lines-refused n p e = let f = rw h at e in rw (← f)
 
-  module _ (found : LinesFound) (e : Read found ≡ linesAnswer (readLines blank text (length table))) where
-    found-is : readLines blank text 2048 ≡ lines (found .rows) (found .rest) (found .ended)
-    found-is = rw h at (answer-read (readLines blank text (length table)) found e)
+  module _ (found : LinesFound) (e : accepted found ≡ readLines blank text (length table)) where
+    found-is : readLines blank text 2048 ≡ accepted found
+    found-is = sym (rw h at e)
 
     pub found-few : 8 * found .rows ≤ 2048
     unfolding readLines
@@ -77,9 +72,6 @@ module _ (blank : Bool) (text table : List ℕ) (h : length table ≡ 2048) wher
 
 -- ---- a sheet that is read is of an accepted table, and its slots fit
 
-same-sheet : {a b : Sheet} → accepted a ≡ accepted b → a ≡ b
-same-sheet e = cc
-
 pub read-tells : (blank : Bool) (text : List ℕ) (sheet : Sheet) → sheetRead blank text ≡ accepted sheet
     → (table : List ℕ) × (accept table ≡ accepted sheet) × (sheet .counts .slots ≤ 16384)
 read-tells blank text sheet e =
@@ -87,5 +79,5 @@ read-tells blank text sheet e =
     let table = tableIn (l .rows) text in
     let (a, is, g) = bound-accepts (accept table) f in
     let (fits, k) = not-refused 13 (a .counts .slots) (ltb 16384 (a .counts .slots)) g in
-    let s = same-sheet k in
+    let s = same-accepted k in
     (table, is ∙ k, subst (λ (b : Sheet). b .counts .slots ≤ 16384) s (ltb-false 16384 (a .counts .slots) fits))

@@ -21,7 +21,7 @@ use Rattle.sheet.specs.Steps.{settings, extension}
 use Rattle.sheet.specs.Calls.{rowCount, checking, writing, choosing, extending, decoding, left, modelOf, settingsOf, constraint}
 use Rattle.sheet.specs.Relations.{Measures, Extends, Decodes}
 use Rattle.sheet.proofs.Accepted.{accepted-tells}
-use Rattle.sheet.proofs.Called.{bound-accepts, then-accepts, not-refused, choosing-tells}
+use Rattle.sheet.proofs.Called.{same-accepted, bound-accepts, then-accepts, not-refused, choosing-tells}
 use Rattle.promise.specs.Across.{EvaluatesTo, DecodedMeetTheSheet, ExtendedDecodesBack, ExtendedNotLost, ExtendedAsEvaluated}
 use Rattle.promise.proofs.Counts.{counted}
 use Rattle.promise.proofs.Promise.{demand-three}
@@ -53,10 +53,6 @@ extending-tells table values room sheet e =
     let (a, chooses, rest) = bound-accepts (choosing table values) e in
     let same = not-refused 18 (a .counts .variables) (ltb room (a .counts .variables)) rest .1 in
     choosing-tells table values (chooses ∙ same)
-
-module _ {A : Type 0} where
-  same-accepted : {a b : A} → accepted a ≡ accepted b → a ≡ b
-  same-accepted e = cc
 
 extends-tells : (table : List ℕ) (values : List ℤ) (model₀ model₁ : List ℕ) (b : Bool) → Extends table values model₀ (Constraint b) model₁ → Told table values b model₁
 extends-tells table values model₀ model₁ b x =

@@ -25,10 +25,10 @@ use Rattle.promise.proofs.Choices.{first, after, within-all}
 use Rattle.promise.proofs.Counts.{counted}
 use Rattle.promise.proofs.Fitting.{table-fits}
 use Rattle.promise.proofs.Promise.{known}
-use Rattle.promise.proofs.Outcomes.{same-answer}
+use Rattle.promise.proofs.Outcomes.{same-said}
 
 pub is-done : {answer : Answer} (o : Outcome Sheet) (sheet : Sheet) → o ≡ accepted sheet → said answer ≡ done o → answer ≡ Done
-is-done {answer} o sheet e says = same-answer says (rw e)
+is-done {answer} o sheet e says = same-said answer Done says (rw e)
 
 values-many : (rows : List Fields) (earlier : List Value) (vs : List ℤ) → length (valuesFrom earlier rows vs) ≡ length earlier + length rows
 values-many [] earlier vs = omega arith

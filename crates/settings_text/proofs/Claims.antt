@@ -14,11 +14,12 @@ use Rattle.sheet.specs.declared.ClaimRead.{ClaimRead}
 use Rattle.sheet.specs.declared.ClaimRead.the-variants.{Model, NoneClaimed, Refused}
 use Rattle.sheet.specs.Values.{every}
 use Rattle.sheet.specs.Acceptance.{Outcome, accepted}
-use Rattle.sheet.specs.Calls.{left}
-use Rattle.sheet.specs.Texts.{ascii, refusedLine, Claim, model, variableText, signAt, signsIn, claimIn, readClaim, claimAnswer, modelBytes}
+use Rattle.sheet.specs.Calls.{_giving_, left, claimed}
+use Rattle.sheet.specs.Texts.{ascii, refusedLine, Claim, model, variableText, signAt, signsIn, claimIn, readClaim, isModel, modelBytes}
+use Rattle.sheet.proofs.Called.{giving-refuses}
 use Rattle.table.proofs.Answers.{left-accepted}
 use Rattle.assign.specs.Model.{areBits}
-use Rattle.solver_text.proofs.Answers.{answer-refused, answer-none, told, model-claimed}
+use Rattle.solver_text.proofs.Answers.{answer-none, told, model-claimed}
 use Rattle.settings_text.specs.Replies.{Taken, Told, settingsText, claimText}
 use Rattle.settings_text.proofs.Variables.{taken-few}
 
@@ -53,7 +54,7 @@ module _ (table rest : List ℕ) {n : ℕ} (taken : Taken table n) (model₀ : L
   outcome-is = rw (le-ltb (length model₀) n (omega (arith, few, h)))
 
   abbrev Answered : ClaimRead → Type 0
-  Answered r = r ≡ claimAnswer (readClaim n rest (length model₀))
+  Answered r = claimed r ≡ (readClaim n rest (length model₀) giving isModel)
 
   -- by what the claim is
   claim-is : {o : Outcome Claim} → claimIn n rest ≡ o → claimIn (taken .sheet .counts .variables) rest ≡ o
@@ -61,20 +62,20 @@ module _ (table rest : List ℕ) {n : ℕ} (taken : Taken table n) (model₀ : L
 
   pub refusal-printed : {m p : ℕ} → Answered (Refused m p) → claimText table rest ≡ refusedLine m p
   unfolding claimText
-  refusal-printed {m} {p} e = rw (taken .is, claim-is (answer-refused (claimIn n rest) m p (rw outcome-is at e)))
+  refusal-printed e = rw (taken .is, claim-is (giving-refuses (claimIn n rest) isModel (sym (rw outcome-is at e))))
 
   pub none-printed : Answered NoneClaimed → claimText table rest ≡ ascii "none claimed\n"
   unfolding claimText
   none-printed e = rw (taken .is, claim-is (answer-none (claimIn n rest) (rw outcome-is at e)))
 
   module _ (e : Answered Model) {after : List ℕ} (f : after ≡ left (readClaim n rest (length model₀)) modelBytes model₀) where
-    claimed : claimIn n rest ≡ accepted (model (told n rest))
-    claimed = model-claimed n rest (rw outcome-is at e) .outcome
+    model-is : claimIn n rest ≡ accepted (model (told n rest))
+    model-is = model-claimed n rest (rw outcome-is at e) .outcome
 
     bytes-are : take n after ≡ told n rest
     bytes-are =
         let bytes = told n rest in
-        ap (take n) (f ∙ sym (left-accepted modelBytes model₀ (outcome-is ∙ claimed))) ∙ take-at bytes (drop (length bytes) model₀) n (signs-many n 1 (drop 16 rest))
+        ap (take n) (f ∙ sym (left-accepted modelBytes model₀ (outcome-is ∙ model-is))) ∙ take-at bytes (drop (length bytes) model₀) n (signs-many n 1 (drop 16 rest))
 
     pub model-told : Told table (take n after)
     model-told =
@@ -84,4 +85,4 @@ module _ (table rest : List ℕ) {n : ℕ} (taken : Taken table n) (model₀ : L
 
     pub model-printed : claimText table rest ≡ settingsText table (take n after)
     unfolding claimText settingsText
-    model-printed = rw (bytes-are, taken .is, claim-is claimed)
+    model-printed = rw (bytes-are, taken .is, claim-is model-is)

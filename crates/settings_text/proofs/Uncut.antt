@@ -11,9 +11,10 @@ use lib.Dec.{eqb}
 use lib.ListN.{length, take, drop, length-append}
 use lib.Seq.{length-take-le, take-all}
 use Rattle.whole.specs.Tests.{if_then_else_}
+use Rattle.sheet.specs.declared.LinesFound.{LinesFound}
 use Rattle.sheet.specs.Acceptance.{Outcome, refused, accepted, Sheet}
 use Rattle.sheet.specs.Calls.{_>>=_}
-use Rattle.sheet.specs.Texts.{ascii, Lines, decimal, satisfiable, unsatisfiable, variableText, variableTexts, modelLine, signAt, signsIn, starts, readLines, claimIn}
+use Rattle.sheet.specs.Texts.{ascii, decimal, satisfiable, unsatisfiable, variableText, variableTexts, modelLine, signAt, signsIn, starts, readLines, claimIn}
 use Rattle.sheet.specs.Programs.{inputOf, sheetIn, printed, settled, settingsProgram}
 use Rattle.print.proofs.Decimals.{length-one, length-more}
 use Rattle.program.proofs.Cut.{drop-cut, read-cut, found-cut}
@@ -98,10 +99,10 @@ module _ (input : List ℕ) where
   unfolding settingsProgram wholeText
   output-is = refl
 
-  abbrev answerOf : List ℕ → Lines → Outcome Sheet → Outcome (List ℕ)
+  abbrev answerOf : List ℕ → LinesFound → Outcome Sheet → Outcome (List ℕ)
   answerOf text l o = o >>= (λ sheet. claimIn (sheet .counts .variables) (drop (l .rest) text) >>= settled sheet)
 
-  lines-uncut : (l : Lines) → readLines true input 2048 ≡ accepted l → answerOf (inputOf input) l (sheetIn (inputOf input) l) ≡ answerOf input l (sheetIn input l)
+  lines-uncut : (l : LinesFound) → readLines true input 2048 ≡ accepted l → answerOf (inputOf input) l (sheetIn (inputOf input) l) ≡ answerOf input l (sheetIn input l)
   lines-uncut l e = ap (answerOf (inputOf input) l) (found-cut true input l e) ∙ by (sheetIn input l) refl
     where
       by : (o : Outcome Sheet) → sheetIn input l ≡ o → answerOf (inputOf input) l o ≡ answerOf input l o
@@ -116,7 +117,7 @@ module _ (input : List ℕ) where
   unfolding wholeText
   uncut = output-is ∙ rw (read-cut true input) (by (readLines true input 2048) refl)
     where
-      by : (o : Outcome Lines) → readLines true input 2048 ≡ o
+      by : (o : Outcome LinesFound) → readLines true input 2048 ≡ o
           → printed (o >>= (λ l. answerOf (inputOf input) l (sheetIn (inputOf input) l))) ≡ printed (o >>= (λ l. answerOf input l (sheetIn input l)))
       by (refused n p) e = refl
       by (accepted l) e = ap printed (lines-uncut l e)

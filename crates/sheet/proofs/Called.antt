@@ -11,11 +11,14 @@ use lib.IntN.{ℤ}
 use Rattle.circuit.specs.Literals.{Assignment, Clause, clauseTrue, allTrue}
 use Rattle.sheet.specs.Values.{unknowns, eachInBits, every, Within}
 use Rattle.sheet.specs.Acceptance.{Outcome, refused, accepted, Sheet, accept}
-use Rattle.sheet.specs.Calls.{_>>=_, _>>_, refuse_at_if_, falseAt, unknownCount, choosing}
+use Rattle.sheet.specs.Calls.{_>>=_, _>>_, _giving_, refuse_at_if_, falseAt, unknownCount, choosing}
 
 module _ {A : Type 0} where
-  refused-not : {n p : ℕ} {a : A} {X : Type 0} → refused n p ≡ accepted a → X
+  pub refused-not : {n p : ℕ} {a : A} {X : Type 0} → refused n p ≡ accepted a → X
   refused-not e = let z : _≡_ {A = ℕ} 0 1 = cc in absurd (omega arith)
+
+  pub same-accepted : {a b : A} → accepted a ≡ accepted b → a ≡ b
+  same-accepted e = cc
 
 -- a call that accepts has accepted step by step
 module _ {A B : Type 0} where
@@ -26,6 +29,12 @@ module _ {A B : Type 0} where
   pub then-accepts : (o : Outcome A) {rest : Outcome B} {b : B} → (o >> rest) ≡ accepted b → (a : A) × (o ≡ accepted a) × (rest ≡ accepted b)
   then-accepts (refused n p) e = refused-not e
   then-accepts (accepted a) e = (a, refl, e)
+
+-- what a call gives is refused only where the call refuses
+module _ {A B : Type 0} where
+  pub giving-refuses : (o : Outcome A) (f : A → B) {n p : ℕ} → (o giving f) ≡ refused n p → o ≡ refused n p
+  giving-refuses (refused m q) f e = cc
+  giving-refuses (accepted a) f e = refused-not (sym e)
 
 -- a test that did not refuse; the rest follows
 module _ {B : Type 0} where

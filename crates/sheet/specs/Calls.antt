@@ -7,13 +7,19 @@ use lib.ListN.{length, take, drop}
 use lib.IntN.{ℤ}
 use Rattle.whole.specs.Bits.{bit}
 use Rattle.circuit.specs.Literals.{Assignment, clauseTrue}
+use Rattle.circuit.specs.declared.Counts.{Counts}
 use Rattle.sheet.specs.declared.Record.{Record}
-use Rattle.sheet.specs.declared.Measured.{Measured}
-use Rattle.sheet.specs.declared.Measured.the-variants.{Counted, Refused}
 use Rattle.sheet.specs.declared.Answer.{Answer}
 use Rattle.sheet.specs.declared.Answer.the-variants as answer
+use Rattle.sheet.specs.declared.Measured.{Measured}
+use Rattle.sheet.specs.declared.Measured.the-variants as measured
 use Rattle.sheet.specs.declared.Extended.{Extended}
 use Rattle.sheet.specs.declared.Extended.the-variants as extended
+use Rattle.sheet.specs.declared.LinesFound.{LinesFound}
+use Rattle.sheet.specs.declared.LinesRead.{LinesRead}
+use Rattle.sheet.specs.declared.LinesRead.the-variants as lines
+use Rattle.sheet.specs.declared.ClaimRead.{ClaimRead}
+use Rattle.sheet.specs.declared.ClaimRead.the-variants as claim
 use Rattle.sheet.specs.Values.{numerator, truthOf, valueAt, rowValues, unknowns, eachInBits}
 use Rattle.sheet.specs.Acceptance.{Outcome, refused, accepted, recordAt, Sheet, accept}
 use Rattle.sheet.specs.Steps.{clauses, slotsFor, mapFor, settings, extension}
@@ -28,6 +34,10 @@ module _ {A B : Type 0} where
   abbrev pub _>>_ : Outcome A → Outcome B → Outcome B
   refused n p >> b = refused n p
   accepted a >> b = b
+
+  infixl 1 _giving_
+  abbrev pub _giving_ : Outcome A → (A → B) → Outcome B
+  o giving f = o >>= λ a. accepted (f a)
 
 infix 3 refuse_at_if_
 abbrev pub refuse_at_if_ : ℕ → ℕ → Bool → Outcome (Unit {0})
@@ -159,19 +169,28 @@ module _ {A : Type 0} where
   placeOf (refused n p) = p
   placeOf (accepted a) = 0
 
--- measuring answers what an accepted table counts
-abbrev pub measuring : Outcome Sheet → Measured
-measuring (refused n p) = Refused n p
-measuring (accepted sheet) = Counted (sheet .counts)
-
--- what an answer says: that the call is done, or its refusal's number and place; extending says too whether the constraint is true
+-- what an answer says: a refusal's number and place; else that the call is done, what the table counts, whether the constraint is true of the
+-- values, which lines were found, whether a model is claimed
 abbrev pub said : Answer → Outcome (Unit {0})
 said answer.Done = accepted tt
 said (answer.Refused n p) = refused n p
 
+abbrev pub counted : Measured → Outcome Counts
+counted (measured.Counted c) = accepted c
+counted (measured.Refused n p) = refused n p
+
 abbrev pub told : Extended → Outcome Bool
 told (extended.Constraint b) = accepted b
 told (extended.Refused n p) = refused n p
+
+abbrev pub found : LinesRead → Outcome LinesFound
+found (lines.Read l) = accepted l
+found (lines.Refused n p) = refused n p
+
+abbrev pub claimed : ClaimRead → Outcome Bool
+claimed claim.Model = accepted true
+claimed claim.NoneClaimed = accepted false
+claimed (claim.Refused n p) = refused n p
 
 module _ {A : Type 0} where
   abbrev pub done : Outcome A → Outcome (Unit {0})

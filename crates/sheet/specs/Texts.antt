@@ -11,10 +11,7 @@ use lib.IntN.{ℤ, pos, natAbs}
 use lib.Signed.{ltZ}
 use Rattle.whole.specs.Tests.{if_then_else_}
 use Rattle.sheet.specs.declared.Fields.{Fields}
-use Rattle.sheet.specs.declared.LinesRead.{LinesRead}
-use Rattle.sheet.specs.declared.LinesRead.the-variants.{Read, Refused}
-use Rattle.sheet.specs.declared.ClaimRead.{ClaimRead}
-use Rattle.sheet.specs.declared.ClaimRead.the-variants.{Model, NoneClaimed, Refused as ClaimRefused}
+use Rattle.sheet.specs.declared.LinesFound.{LinesFound}
 use Rattle.sheet.specs.Rows.{uses, isUnknown}
 use Rattle.sheet.specs.Values.{Value, numerator, denominator}
 use Rattle.sheet.specs.Acceptance.{Outcome, refused, accepted, Sheet}
@@ -55,16 +52,11 @@ tableIn zero text = []
 tableIn (suc n) text = bytesIn 8 text ++ tableIn n (drop 17 text)
 
 -- how many rows were read, where the text behind them begins, and whether an empty line ended them
-pub record Lines : Type 0 where
-  pub rows : ℕ
-  pub rest : ℕ
-  pub ended : Bool
-
-abbrev pub lines : ℕ → ℕ → Bool → Outcome Lines
+abbrev pub lines : ℕ → ℕ → Bool → Outcome LinesFound
 lines n rest ended = accepted (record { rows = n; rest = rest; ended = ended })
 
 -- n lines before, room for so many more; where `blank` says so, an empty line ends the table, even as line 256
-unfoldable pub linesFrom : (more : ℕ) → (blank : Bool) → (n : ℕ) → List ℕ → Outcome Lines
+unfoldable pub linesFrom : (more : ℕ) → (blank : Bool) → (n : ℕ) → List ℕ → Outcome LinesFound
 linesFrom zero blank n [] = lines n (17 * n) false
 linesFrom zero blank n (b ∷ text) = if blank && eqb b 10 then lines n (17 * n + 1) true else refused 2 0
 linesFrom (suc more) blank n [] = lines n (17 * n) false
@@ -73,7 +65,7 @@ linesFrom (suc more) blank n (b ∷ text) =
     if beginsLine 16 (b ∷ text) then linesFrom more blank (n + 1) (drop 17 (b ∷ text)) else
     refused 20 n
 
-unfoldable pub readLines : (blank : Bool) → List ℕ → (tableRoom : ℕ) → Outcome Lines
+unfoldable pub readLines : (blank : Bool) → List ℕ → (tableRoom : ℕ) → Outcome LinesFound
 readLines blank text tableRoom = do
   refuse 18 unless 2048 fit tableRoom
   linesFrom 256 blank 0 text
@@ -163,17 +155,11 @@ readClaim variables text modelRoom = do
   refuse 18 unless variables fit modelRoom
   claimIn variables text
 
--- what the two readers answer, with document 01's number and place at a refusal
-abbrev pub linesAnswer : Outcome Lines → LinesRead
-linesAnswer (refused number place) = Refused number place
-linesAnswer (accepted l) = Read (record { rows = l .rows; rest = l .rest; ended = l .ended })
+-- what the reader of the solver's text says, whether a model is claimed, and writes: a byte a variable, and nothing where none is
+abbrev pub isModel : Claim → Bool
+isModel noneClaimed = false
+isModel (model bs) = true
 
-abbrev pub claimAnswer : Outcome Claim → ClaimRead
-claimAnswer (refused number place) = ClaimRefused number place
-claimAnswer (accepted noneClaimed) = NoneClaimed
-claimAnswer (accepted (model bs)) = Model
-
--- what the reader of the solver's text writes: a byte a variable, and nothing where no model is claimed
 abbrev pub modelBytes : Claim → List ℕ
 modelBytes noneClaimed = []
 modelBytes (model bs) = bs

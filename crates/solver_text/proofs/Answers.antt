@@ -13,19 +13,15 @@ use Rattle.frame.specs.Frame.{front}
 use Rattle.sheet.specs.declared.ClaimRead.{ClaimRead}
 use Rattle.sheet.specs.declared.ClaimRead.the-variants.{Model, NoneClaimed, Refused}
 use Rattle.sheet.specs.Acceptance.{Outcome, refused, accepted}
-use Rattle.sheet.specs.Calls.{left}
-use Rattle.sheet.specs.Texts.{ascii, Claim, noneClaimed, model, satisfiable, unsatisfiable, variableTexts, modelLine, signsIn, starts, claimIn, readClaim, claimAnswer, modelBytes}
+use Rattle.sheet.specs.Calls.{_giving_, left, claimed}
+use Rattle.sheet.specs.Texts.{ascii, Claim, noneClaimed, model, satisfiable, unsatisfiable, variableTexts, modelLine, signsIn, starts, claimIn, readClaim, isModel, modelBytes}
+use Rattle.sheet.proofs.Called.{refused-not, giving-refuses}
 use Rattle.solver_text.proofs.Passing.{starts-append}
 
-pub answer-refused : (o : Outcome Claim) (a b : ℕ) → Refused a b ≡ claimAnswer o → o ≡ refused a b
-answer-refused (refused m q) a b e = cc
-answer-refused (accepted noneClaimed) a b e = let z : _≡_ {A = ℕ} 0 1 = cc in absurd (omega arith)
-answer-refused (accepted (model bs)) a b e = let z : _≡_ {A = ℕ} 0 1 = cc in absurd (omega arith)
-
-pub answer-none : (o : Outcome Claim) → NoneClaimed ≡ claimAnswer o → o ≡ accepted noneClaimed
-answer-none (refused m q) e = let z : _≡_ {A = ℕ} 0 1 = cc in absurd (omega arith)
+pub answer-none : (o : Outcome Claim) → accepted false ≡ (o giving isModel) → o ≡ accepted noneClaimed
+answer-none (refused m q) e = refused-not (sym e)
 answer-none (accepted noneClaimed) e = refl
-answer-none (accepted (model bs)) e = let z : _≡_ {A = ℕ} 0 1 = cc in absurd (omega arith)
+answer-none (accepted (model bs)) e = cc
 
 module _ (n : ℕ) (text : List ℕ) where
   abbrev pub told : List ℕ
@@ -38,7 +34,7 @@ module _ (n : ℕ) (text : List ℕ) where
     pub line : starts (modelLine told) (drop 14 text) ≡ true
     pub whole : eqb (length (drop 14 text)) (length (modelLine told)) ≡ true
 
-  pub model-claimed : Model ≡ claimAnswer (claimIn n text) → Claimed
+  pub model-claimed : accepted true ≡ (claimIn n text giving isModel) → Claimed
   unfolding claimIn
   model-claimed e =
       let none = starts unsatisfiable text in
@@ -54,7 +50,7 @@ module _ (n : ℕ) (text : List ℕ) where
           if w then if x then if y then accepted (model told) else refused 21 2 else refused 21 1 else
           refused 21 0
 
-      by : (u v w x y : Bool) → Model ≡ claimAnswer (claim u v w x y) → (claim u v w x y ≡ accepted (model told)) × (w ≡ true) × (x ≡ true) × (y ≡ true)
+      by : (u v w x y : Bool) → accepted true ≡ (claim u v w x y giving isModel) → (claim u v w x y ≡ accepted (model told)) × (w ≡ true) × (x ≡ true) × (y ≡ true)
       by true true w x y e = let z : _≡_ {A = ℕ} 0 1 = cc in absurd (omega arith)
       by true false w x y e = let z : _≡_ {A = ℕ} 0 1 = cc in absurd (omega arith)
       by false v true true true e = (refl, refl, refl, refl)
@@ -63,7 +59,7 @@ module _ (n : ℕ) (text : List ℕ) where
       by false v false x y e = let z : _≡_ {A = ℕ} 0 1 = cc in absurd (omega arith)
 
   -- so its variables stand behind the mark
-  pub variables-stand : Model ≡ claimAnswer (claimIn n text) → starts (variableTexts told 1) (drop 16 text) ≡ true
+  pub variables-stand : accepted true ≡ (claimIn n text giving isModel) → starts (variableTexts told 1) (drop 16 text) ≡ true
   unfolding modelLine
   variables-stand e =
       let line = sym (starts-append (ascii "v ") (variableTexts told 1) (drop 14 text)) ∙ model-claimed e .line in
@@ -75,25 +71,25 @@ module _ (n : ℕ) (text : List ℕ) where
 
     -- the answer, and the model as it is left
     abbrev Answers : ClaimRead → List ℕ → Type 0
-    Answers answer after = (answer ≡ claimAnswer outcome) × (after ≡ left outcome modelBytes before)
+    Answers answer after = (claimed answer ≡ (outcome giving isModel)) × (after ≡ left outcome modelBytes before)
 
     pub too-short : length before < n → Answers (Refused 18 n) before
     unfolding readClaim left
     too-short h = rw (lt-ltb (length before) n h) (refl, refl)
 
-    module _ (h : n ≤ length before) (answer : ClaimRead) (e : answer ≡ claimAnswer (claimIn n text)) where
+    module _ (h : n ≤ length before) (answer : ClaimRead) (e : claimed answer ≡ (claimIn n text giving isModel)) where
       judged : outcome ≡ claimIn n text
       unfolding readClaim
       judged = rw (le-ltb (length before) n h)
 
       pub claim-refused : (a b : ℕ) → answer ≡ Refused a b → Answers answer before
       unfolding left
-      claim-refused a b q = rw (q, judged ∙ answer-refused (claimIn n text) a b (sym q ∙ e)) (refl, refl)
+      claim-refused a b q = rw (q, judged ∙ giving-refuses (claimIn n text) isModel (sym (rw q at e))) (refl, refl)
 
       pub claim-none : answer ≡ NoneClaimed → Answers answer before
       unfolding left
-      claim-none q = rw (q, judged ∙ answer-none (claimIn n text) (sym q ∙ e)) (refl, refl)
+      claim-none q = rw (q, judged ∙ answer-none (claimIn n text) (rw q at e)) (refl, refl)
 
       pub claim-model : (after : List ℕ) → answer ≡ Model → after ≡ front told before → Answers answer after
       unfolding left front
-      claim-model after q w = rw (q, w, judged ∙ model-claimed (sym q ∙ e) .outcome) (refl, refl)
+      claim-model after q w = rw (q, w, judged ∙ model-claimed (rw q at e) .outcome) (refl, refl)

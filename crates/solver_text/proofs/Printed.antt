@@ -10,7 +10,7 @@ use lib.ListN.{length, drop}
 use lib.Seq.{drop-append-seam}
 use Rattle.whole.specs.Tests.{if_then_else_}
 use Rattle.sheet.specs.Acceptance.{accepted}
-use Rattle.sheet.specs.Texts.{digit, digitsIn, decimal, model, satisfiable, variableText, variableTexts, modelLine, signAt, signsIn, starts, modelClaim, claimIn, claimAnswer}
+use Rattle.sheet.specs.Texts.{digit, digitsIn, decimal, model, satisfiable, variableText, variableTexts, modelLine, signAt, signsIn, starts, modelClaim, claimIn}
 use Rattle.solver_text.proofs.Answers.{told, Claimed, model-claimed}
 
 -- the printed text of a model
@@ -40,7 +40,7 @@ exact (a ∷ p) (b ∷ text) e l =
 
 pub accepted-printed : (n : ℕ) (text bs : List ℕ) → claimIn n text ≡ accepted (model bs) → text ≡ modelText bs
 accepted-printed n text bs e =
-    let c : Claimed n text = model-claimed n text (sym (ap claimAnswer e)) in
+    let c : Claimed n text = model-claimed n text (rw e) in
     let same : told n text ≡ bs = let q = sym (c .outcome) ∙ e in cc in
     let line = exact (modelLine (told n text)) (drop 14 text) (c .line) (eqb-true _ _ (c .whole)) in
     front-part satisfiable text (c .first) ∙ rw (← same) (ap (λ (t : List ℕ). satisfiable ++ t) line)

@@ -7,8 +7,8 @@ ghost use mathlib.Core.List.{[], _∷_, _++_};
 ghost use Prim.Native.Nat.{_≤_, _<_};
 ghost use lib.ListN.{length, drop};
 ghost use Rattle.frame.specs.Frame.{front};
-ghost use Rattle.sheet.specs.Calls.{left};
-ghost use Rattle.sheet.specs.Texts.{decimal, variableText, variableTexts, signAt, signsIn, starts, modelClaim, claimIn, readClaim, claimAnswer, modelBytes};
+ghost use Rattle.sheet.specs.Calls.{_giving_, left, claimed};
+ghost use Rattle.sheet.specs.Texts.{decimal, variableText, variableTexts, signAt, signsIn, starts, modelClaim, claimIn, readClaim, isModel, modelBytes};
 ghost use Rattle.solver_text.specs.Passing.{passing};
 
 // A part of the text is as it should be, and the rest begins at a place; or it is not.
@@ -114,7 +114,7 @@ fn pass_variables(text: &[u8], from: usize, variables: u32) -> Step
 
 // Judges the text behind a first line that claims a model: the model's line, and nothing behind it.
 fn judge_model(text: &[u8], variables: u32) -> ClaimRead
-    ensures { λ r. ⌜ r ≡ claimAnswer (modelClaim (signsIn variables 1 (drop 16 (now (text .entry)))) (drop 14 (now (text .entry)))) ⌝ }
+    ensures { λ r. ⌜ claimed r ≡ (modelClaim (signsIn variables 1 (drop 16 (now (text .entry)))) (drop 14 (now (text .entry))) giving isModel) ⌝ }
 {
     let mark = pass_part(text, 14, b"v ");
     let Step::Next(from) = mark else {
@@ -132,7 +132,7 @@ fn judge_model(text: &[u8], variables: u32) -> ClaimRead
 
 // Judges the text and writes nothing.
 fn judge(text: &[u8], variables: u32) -> ClaimRead
-    ensures { λ r. ⌜ r ≡ claimAnswer (claimIn variables (now (text .entry))) ⌝ }
+    ensures { λ r. ⌜ claimed r ≡ (claimIn variables (now (text .entry)) giving isModel) ⌝ }
 {
     let none = pass_part(text, 0, b"s UNSATISFIABLE\n");
     if let Step::Next(behind) = none {
@@ -186,7 +186,7 @@ fn put_model(model: &mut [u8], text: &[u8], variables: u32)
 
 // Reads a solver's text about so many variables: a model's bytes, 0 or 1, go to the front of the model.
 pub fn read_claim(text: &[u8], variables: u32, model: &mut [u8]) -> ClaimRead
-    ensures answer { λ r. ⌜ r ≡ claimAnswer (readClaim variables (now (text .entry)) (length (now (model .entry)))) ⌝ }
+    ensures answer { λ r. ⌜ claimed r ≡ (readClaim variables (now (text .entry)) (length (now (model .entry))) giving isModel) ⌝ }
     ensures model { λ _. ⌜ now (model .exit) ≡ left (readClaim variables (now (text .entry)) (length (now (model .entry)))) modelBytes (now (model .entry)) ⌝ }
 {
     if model.len() < variables as usize {

@@ -6,7 +6,7 @@ ghost use Prim.Native.Nat.{ℕ, _≤_, _<_, min};
 ghost use lib.ListN.{take, drop};
 ghost use Rattle.sheet.specs.Acceptance as Acceptance;
 ghost use Rattle.sheet.specs.Acceptance.{accept};
-ghost use Rattle.sheet.specs.Calls.{checking, measuring};
+ghost use Rattle.sheet.specs.Calls.{_giving_, checking, counted};
 ghost use Rattle.counting.specs.Bounds.{Below};
 ghost use Rattle.judge.specs.Bounds.{InLimits, Bounded};
 ghost use Rattle.table.specs.Surveys.{refusalOfLength, numberOfVerdict, placesOf, verdictBy, blank, asSurvey, AllInLimits, InBounds};
@@ -175,7 +175,7 @@ pub fn survey(table: &[u8]) -> Survey
 
 // What a table counts, or its refusal.
 pub fn measure(table: &[u8]) -> Measured
-    ensures answer { λ m. ⌜ m ≡ measuring (accept (now (table .entry))) ⌝ }
+    ensures answer { λ m. ⌜ counted m ≡ (accept (now (table .entry)) giving λ sheet. sheet .counts) ⌝ }
 {
     let s = survey(table);
     let counts = s.counts;

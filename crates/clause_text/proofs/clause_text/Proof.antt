@@ -1,5 +1,5 @@
 -- `clause_text::clause_text` meets its contract. Assumes nothing.
-use mathlib.Core.Path.{_≡_, sym, _∙_}
+use mathlib.Core.Path.{_≡_, sym}
 use native.Mathlib.Omega.{arith}
 use borrow.Author.Needs.{needs}
 use lib.ListN.{length}
@@ -46,7 +46,7 @@ print-clauses-requires c κs =
     let u = i .before .before .before .before in
     let s = u .before .before .before in
     let e = rw (u .used .ensures .1) at (i .clauses-in .ensures .0) in
-    let fit = slots-fit (s .args .input .now) (sym (m .measured2 .given .1) ∙ e) in
+    let fit = slots-fit (s .args .input .now) (rw (m .measured2 .given .1) at e) in
     let long : length (i .clauses-in .last .1 .1 .0) ≡ 16384 = search needs in
     (omega (arith, fit, long), omega (arith, fit, s .pre))
 
@@ -61,7 +61,7 @@ returns c =
     let u = i .before .before .before .before in
     let s = u .before .before .before in
     let e = rw (u .used .ensures .1) at (i .clauses-in .ensures .0) in
-    let line = refusal-printed (s .args .input .now) (sym (m .measured .given .1) ∙ e) in
+    let line = refusal-printed (s .args .input .now) (rw (m .measured .given .1) at e) in
     let whole = piece-whole (clauseProgram (s .args .input .now)) (s .args .out .now) (omega (arith, s .pre)) in
     rw (← line, whole) at (d .refused-line .ensures)
 
@@ -76,7 +76,7 @@ returns-2 c =
     let u = i .before .before .before .before in
     let s = u .before .before .before in
     let (answer, slots) = rw (u .used .ensures .1) at (i .clauses-in .ensures) in
-    let text = clauses-printed (s .args .input .now) (sym (m .measured2 .given .1) ∙ answer) _ slots in
+    let text = clauses-printed (s .args .input .now) (rw (m .measured2 .given .1) at answer) _ slots in
     rw (← text) at (d .print-clauses .ensures)
 
 pub clause-text-spec : {M : Type 1} → statement M

@@ -1,5 +1,5 @@
 -- `clause_text::clauses_in` meets its contract. Assumes nothing.
-use mathlib.Core.Path.{_≡_, sym, ap, _∙_}
+use mathlib.Core.Path.{_≡_, sym}
 use mathlib.Core.Bool.{false}
 use mathlib.Core.List.{List}
 use Prim.Native.Nat.{ℕ, _*_}
@@ -7,7 +7,7 @@ use native.Mathlib.Omega.{arith}
 use borrow.Author.Needs.{needs}
 use lib.ListN.{length, replicate, length-replicate}
 use lib.Seq.{length-take-le}
-use Rattle.sheet.specs.Calls.{measuring, sheetSlots}
+use Rattle.sheet.specs.Calls.{sheetSlots}
 use Rattle.table.proofs.Answers.{left-refused}
 use Rattle.program.proofs.Tables.{lines-refused, found-few, found-table, found-sheet}
 use Rattle.clause_text.proofs.clauses_in.Statement.{statement}
@@ -43,7 +43,7 @@ array-share-prefix-table c =
     let r = c .before .before in
     let l = r .before .before .before in
     let s = l .before .before .before in
-    let few = found-few false (s .args .text .now) blank blank-long (r .read2 .given .0 .0) (sym (r .read2 .given .1) ∙ l .read-lines .ensures .0) in
+    let few = found-few false (s .args .text .now) blank blank-long (r .read2 .given .0 .0) (rw (r .read2 .given .1) at (l .read-lines .ensures .0)) in
     let long : length (l .read-lines .last .1 .0) ≡ 2048 = search needs in
     omega (arith, few, long)
 
@@ -61,8 +61,8 @@ returns c =
     let r = c .before in
     let l = r .before .before .before in
     let s = l .before .before .before in
-    let o = lines-refused false (s .args .text .now) blank blank-long _ _ (sym (r .read .given .1) ∙ l .read-lines .ensures .0) in
-    (sym (ap measuring o), left-refused sheetSlots (s .args .slots .now) o)
+    let o = lines-refused false (s .args .text .now) blank blank-long _ _ (rw (r .read .given .1) at (l .read-lines .ensures .0)) in
+    (rw o, left-refused sheetSlots (s .args .slots .now) o)
 
 same-length : tie.Need-same-length
 same-length c = search needs
@@ -78,7 +78,7 @@ returns-2 c =
     let s = l .before .before .before in
     let text = s .args .text .now in
     let found = r .read2 .given .0 .0 in
-    let e = sym (r .read2 .given .1) ∙ l .read-lines .ensures .0 in
+    let e = rw (r .read2 .given .1) at (l .read-lines .ensures .0) in
     rw (found-table false text blank blank-long found e (l .read-lines .ensures .1), found-sheet false text blank blank-long found e) at (w .write-clauses .ensures)
 
 pub clauses-in-spec : {M : Type 1} → statement M

@@ -1,10 +1,6 @@
 -- `clause_text::write_clauses` meets its contract. Assumes nothing.
-use mathlib.Core.Path.{sym, ap, _∙_}
 use borrow.Author.Needs.{needs}
-use Rattle.sheet.specs.declared.Measured.the-variants.{Counted, Refused}
-use Rattle.sheet.specs.Calls.{measuring}
-use Rattle.table.specs.declared.answer.Survey.{Survey}
-use Rattle.table.proofs.Answers.{was-accepted, was-refused}
+use Rattle.table.proofs.Answers.{counts-accepted, counts-refused}
 use Rattle.program.specs.Sheets.{sheetOf}
 use Rattle.program.proofs.Rooms.{sheet-numbered}
 use Rattle.clause_text.proofs.write_clauses.Statement.{statement}
@@ -24,8 +20,7 @@ returns c =
     let w = c .before .before .before .before .before in
     let table = w .before .before .before .before .args .table .now in
     let (value, (bounds, (map, slots))) = w .write-sheet .ensures in
-    let (sheet, is, e) = was-accepted (sheetOf table) value (sheet-numbered table) (c .if1 .taken) in
-    (ap (λ (s : Survey). Counted (s .counts)) e ∙ sym (ap measuring is), slots)
+    (counts-accepted (sheetOf table) value (sheet-numbered table) (c .if1 .taken), slots)
 
 same-length-3 : tie.Need-same-length-3
 same-length-3 c = search needs
@@ -37,8 +32,7 @@ returns-2 : tie.Need-returns-2
 returns-2 c =
     let w = c .before .before .before .before .before in
     let (value, (bounds, (map, slots))) = w .write-sheet .ensures in
-    let (n, p, is, e) = was-refused (sheetOf (w .before .before .before .before .args .table .now)) value (c .if1 .left) in
-    (ap (λ (s : Survey). Refused (s .number) (s .place)) e ∙ sym (ap measuring is), slots)
+    (counts-refused (sheetOf (w .before .before .before .before .args .table .now)) value (c .if1 .left), slots)
 
 pub write-clauses-spec : {M : Type 1} → statement M
 write-clauses-spec =

@@ -1,5 +1,5 @@
 -- `lines::judge` meets its contract. Assumes nothing.
-use mathlib.Core.Path.{_≡_, refl, sym, ap, _∙_}
+use mathlib.Core.Path.{_≡_, refl, sym, _∙_}
 use mathlib.Core.Bool.{Bool, true, false}
 use mathlib.Core.List.{List}
 use Prim.Native.Nat.{ℕ, _*_, _-_, _≤_, _<_}
@@ -7,7 +7,7 @@ use native.Mathlib.Omega.{arith}
 use borrow.Author.Needs.{needs}
 use borrow.Author.Tests.{not-true, not-false}
 use lib.ListN.{length, drop, length-drop}
-use Rattle.sheet.specs.Texts.{beginsLine, linesFrom, linesAnswer}
+use Rattle.sheet.specs.Texts.{beginsLine, linesFrom}
 use Rattle.lines.proofs.Laws.{lines-end, lines-ended, lines-full, lines-more, begins-long, rest-all}
 use Rattle.lines.proofs.judge.Statement.{statement}
 use Rattle.lines.proofs.judge.Tie as tie
@@ -44,7 +44,7 @@ returns c =
     let h : t .loop .at < length (s .text .now) = omega arith in
     let w = sym (c .before .ends .ensures) ∙ c .if1 .taken in
     let e = lines-ended (s .blank) (t .loop .rows) (t .loop .at) (s .text .now) (t .loop .inv .place) h w in
-    (ap linesAnswer (sym e ∙ t .loop .inv .left), (omega arith, omega arith))
+    (sym e ∙ t .loop .inv .left, (omega arith, omega arith))
 
 returns-2 : tie.Need-returns-2 Inv-loop μ-loop
 returns-2 c =
@@ -53,7 +53,7 @@ returns-2 c =
     let h : t .loop .at < length (s .text .now) = omega arith in
     let w = sym (c .before .before .ends .ensures) ∙ c .before .if1 .left in
     let e = lines-full (s .blank) (t .loop .rows) (t .loop .at) (s .text .now) (t .loop .inv .place) (c .if2 .taken) h w in
-    (ap linesAnswer (sym e ∙ t .loop .inv .left), tt)
+    (sym e ∙ t .loop .inv .left, tt)
 
 sub-begins-line : tie.Need-sub-begins-line Inv-loop μ-loop
 sub-begins-line c = search needs
@@ -76,7 +76,7 @@ returns-3 c =
     let w = sym (c .before .before .before .before .before .ends .ensures) ∙ c .before .before .before .before .if1 .left in
     let g : beginsLine 16 (drop (t .loop .at) (s .text .now)) ≡ false = rw rest-all at (sym (c .before .begins-line .ensures) ∙ not-true _ (c .if3 .taken)) in
     let e = rw g at (lines-more (s .blank) (t .loop .rows) (t .loop .at) (s .text .now) (t .loop .inv .place) k h w) in
-    (ap linesAnswer (sym e ∙ t .loop .inv .left), tt)
+    (sym e ∙ t .loop .inv .left, tt)
 
 add-at : tie.Need-add-at Inv-loop μ-loop
 add-at c = search needs
@@ -109,7 +109,7 @@ returns-4 c =
     let s = t .before .before .args in
     let h : length (s .text .now) ≤ t .loop .at = omega arith in
     let e = lines-end (s .blank) (t .loop .rows) (t .loop .at) (s .text .now) (t .loop .inv .place) h in
-    (ap linesAnswer (sym e ∙ t .loop .inv .left), (omega arith, omega arith))
+    (sym e ∙ t .loop .inv .left, (omega arith, omega arith))
 
 pub judge-spec : {M : Type 1} → statement M
 judge-spec =

@@ -1,5 +1,4 @@
 -- `lines::read` meets its contract. Assumes nothing.
-use mathlib.Core.Path.{sym, _∙_}
 use native.Mathlib.Omega.{arith}
 use Rattle.lines.proofs.Answers.{too-short, lines-refused, lines-found}
 use borrow.Author.Needs.{needs}
@@ -46,7 +45,7 @@ returns-3 c =
     let j = r .before .before in
     let s = j .before .before .before .before .args in
     lines-found (s .blank) (s .text .now) (s .table .now) (j .before .if1 .left) (r .read .given .0 .0) (p .put-rows .last .0)
-    (sym (r .read .given .1) ∙ j .judge .ensures .0) (p .put-rows .ensures)
+    (rw (r .read .given .1) at (j .judge .ensures .0)) (p .put-rows .ensures)
 
 pub read-spec : {M : Type 1} → statement M
 read-spec =

@@ -1,5 +1,5 @@
 -- `settings_text::print_claim` meets its contract. Assumes nothing.
-use mathlib.Core.Path.{_≡_, sym, _∙_}
+use mathlib.Core.Path.{_≡_, sym}
 use mathlib.Core.List.{List}
 use Prim.Native.Nat.{ℕ}
 use native.Mathlib.Omega.{arith}
@@ -60,7 +60,7 @@ print-settings-requires c κs =
     let r = m .before .before .before in
     let s = r .before .before .before .before .before in
     let (answer, model) = r .read-claim .ensures in
-    (model-told (s .args .table .now) (s .args .rest .now) (s .pre .0) blank blank-long (sym (m .enum-told2 .given .1) ∙ answer) model, search needs)
+    (model-told (s .args .table .now) (s .args .rest .now) (s .pre .0) blank blank-long (rw (m .enum-told2 .given .1) at answer) model, search needs)
 
 same-length : tie.Need-same-length
 same-length c = search needs
@@ -71,7 +71,7 @@ returns c =
     let m = d .before .before .before in
     let r = m .before .before .before in
     let s = r .before .before .before .before .before in
-    let line = refusal-printed (s .args .table .now) (s .args .rest .now) (s .pre .0) blank blank-long (sym (m .claim .given .1) ∙ r .read-claim .ensures .0) in
+    let line = refusal-printed (s .args .table .now) (s .args .rest .now) (s .pre .0) blank blank-long (rw (m .claim .given .1) at (r .read-claim .ensures .0)) in
     let whole = piece-whole (claimText (s .args .table .now) (s .args .rest .now)) (s .args .out .now) (omega (arith, s .pre .1)) in
     rw (← line, whole) at (d .refused-line .ensures)
 
@@ -84,7 +84,7 @@ returns-2 c =
     let m = d .before .before in
     let r = m .before .before .before in
     let s = r .before .before .before .before .before in
-    let line = none-printed (s .args .table .now) (s .args .rest .now) (s .pre .0) blank blank-long (sym (m .enum-told .given .1) ∙ r .read-claim .ensures .0) in
+    let line = none-printed (s .args .table .now) (s .args .rest .now) (s .pre .0) blank blank-long (rw (m .enum-told .given .1) at (r .read-claim .ensures .0)) in
     let whole = piece-whole (claimText (s .args .table .now) (s .args .rest .now)) (s .args .out .now) (omega (arith, s .pre .1)) in
     rw (← line, whole) at (d .none-claimed-line .ensures)
 
@@ -98,7 +98,7 @@ returns-3 c =
     let r = m .before .before .before in
     let s = r .before .before .before .before .before in
     let (answer, model) = r .read-claim .ensures in
-    let text = model-printed (s .args .table .now) (s .args .rest .now) (s .pre .0) blank blank-long (sym (m .enum-told2 .given .1) ∙ answer) model in
+    let text = model-printed (s .args .table .now) (s .args .rest .now) (s .pre .0) blank blank-long (rw (m .enum-told2 .given .1) at answer) model in
     rw (← text) at (d .print-settings .ensures)
 
 pub print-claim-spec : {M : Type 1} → statement M

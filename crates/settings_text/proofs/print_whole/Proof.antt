@@ -1,5 +1,5 @@
 -- `settings_text::print_whole` meets its contract. Assumes nothing.
-use mathlib.Core.Path.{_≡_, sym, _∙_}
+use mathlib.Core.Path.{_≡_, sym}
 use mathlib.Core.Bool.{true}
 use mathlib.Core.List.{List}
 use Prim.Native.Nat.{ℕ, _*_}
@@ -48,7 +48,7 @@ array-share-prefix-table c =
     let r = c .before .before in
     let l = r .before .before .before in
     let s = l .before .before .before .before in
-    let few = found-few true (s .args .text .now) blank blank-long (r .read2 .given .0 .0) (sym (r .read2 .given .1) ∙ l .read-lines-until-empty .ensures .0) in
+    let few = found-few true (s .args .text .now) blank blank-long (r .read2 .given .0 .0) (rw (r .read2 .given .1) at (l .read-lines-until-empty .ensures .0)) in
     let long : length (l .read-lines-until-empty .last .1 .0) ≡ 2048 = search needs in
     omega (arith, few, long)
 
@@ -63,7 +63,7 @@ sub-print-answer c =
     let r = c .before .before .before in
     let l = r .before .before .before in
     let s = l .before .before .before .before in
-    behind-within (s .args .text .now) blank blank-long (r .read2 .given .0 .0) (sym (r .read2 .given .1) ∙ l .read-lines-until-empty .ensures .0)
+    behind-within (s .args .text .now) blank blank-long (r .read2 .given .0 .0) (rw (r .read2 .given .1) at (l .read-lines-until-empty .ensures .0))
 
 part-print-answer-start : tie.Need-part-print-answer-start
 part-print-answer-start c = sub-print-answer c
@@ -83,7 +83,7 @@ returns c =
     let r = d .before .before .before in
     let l = r .before .before .before in
     let s = l .before .before .before .before in
-    let line = lines-printed (s .args .text .now) blank blank-long (sym (r .read .given .1) ∙ l .read-lines-until-empty .ensures .0) in
+    let line = lines-printed (s .args .text .now) blank blank-long (rw (r .read .given .1) at (l .read-lines-until-empty .ensures .0)) in
     let whole = piece-whole (wholeText (s .args .text .now)) (s .args .out .now) (omega (arith, s .pre)) in
     rw (← line, whole) at (d .refused-line .ensures)
 
@@ -98,7 +98,7 @@ returns-2 c =
     let s = l .before .before .before .before in
     let text = s .args .text .now in
     let found = r .read2 .given .0 .0 in
-    let e = sym (r .read2 .given .1) ∙ l .read-lines-until-empty .ensures .0 in
+    let e = rw (r .read2 .given .1) at (l .read-lines-until-empty .ensures .0) in
     rw (found-table true text blank blank-long found e (l .read-lines-until-empty .ensures .1), rest-all (found .rest) text, ← found-printed text blank blank-long found e) at (w .print-answer .ensures)
 
 pub print-whole-spec : {M : Type 1} → statement M

@@ -1,6 +1,5 @@
 -- `solver_text::judge` meets its contract. Assumes nothing.
-use mathlib.Core.Path.{sym, ap, _∙_}
-use Rattle.sheet.specs.Texts.{claimAnswer}
+use mathlib.Core.Path.{sym, _∙_}
 use Rattle.solver_text.proofs.Claims.{none-alone, none-not-last, first-wrong, some-claimed}
 use borrow.Author.Needs.{needs}
 use Rattle.solver_text.proofs.judge.Statement.{statement}
@@ -21,7 +20,7 @@ returns c =
     let u = k .before .before in
     let s = u .before .before .before .args in
     let step = sym (u .pass-part .ensures) ∙ k .none .given .1 in
-    ap claimAnswer (sym (none-not-last (s .variables) (s .text .now) _ step (c .if1 .taken)))
+    rw (none-not-last (s .variables) (s .text .now) _ step (c .if1 .taken))
 
 returns-2 : tie.Need-returns-2
 returns-2 c =
@@ -29,7 +28,7 @@ returns-2 c =
     let u = k .before .before in
     let s = u .before .before .before .args in
     let step = sym (u .pass-part .ensures) ∙ k .none .given .1 in
-    ap claimAnswer (sym (none-alone (s .variables) (s .text .now) _ step (c .if1 .left)))
+    rw (none-alone (s .variables) (s .text .now) _ step (c .if1 .left))
 
 enum-told : tie.Need-enum-told
 enum-told c = search needs
@@ -54,7 +53,7 @@ returns-3 c =
     let s = u .before .before .before .args in
     let first = sym (u .pass-part .ensures) ∙ e .enum-told .given .1 in
     let second = sym (z .pass-part2 .ensures) ∙ c .enum-told3 .given .1 in
-    ap claimAnswer (sym (first-wrong (s .variables) (s .text .now) first second))
+    rw (first-wrong (s .variables) (s .text .now) first second)
 
 judge-model-requires : tie.Need-judge-model-requires
 judge-model-requires c κs = search needs
@@ -67,7 +66,7 @@ returns-4 c =
     let s = u .before .before .before .args in
     let first = sym (u .pass-part .ensures) ∙ e .enum-told .given .1 in
     let second = sym (z .pass-part2 .ensures) ∙ c .before .enum-told2 .given .1 in
-    c .judge-model .ensures ∙ ap claimAnswer (sym (some-claimed (s .variables) (s .text .now) first _ second))
+    c .judge-model .ensures ∙ rw (some-claimed (s .variables) (s .text .now) first _ second)
 
 pub judge-spec : {M : Type 1} → statement M
 judge-spec =

@@ -1,7 +1,7 @@
 -- `solver_text::judge_model` meets its contract. Assumes nothing.
-use mathlib.Core.Path.{sym, ap, _∙_}
+use mathlib.Core.Path.{sym, _∙_}
 use lib.ListN.{drop}
-use Rattle.sheet.specs.Texts.{signsIn, claimAnswer}
+use Rattle.sheet.specs.Texts.{signsIn}
 use Rattle.solver_text.proofs.Claims.{line-follows, line-missing, line-wrong, line-alone, line-not-last}
 use borrow.Author.Needs.{needs}
 use Rattle.solver_text.proofs.judge_model.Statement.{statement}
@@ -25,7 +25,7 @@ returns c =
     let s = m .before .before .before .args in
     let text = s .text .now in
     let bs = signsIn (s .variables) 1 (drop 16 text) in
-    ap claimAnswer (sym (line-wrong bs text (line-missing bs text (sym (m .pass-part .ensures) ∙ c .enum-told .given .1))))
+    rw (line-wrong bs text (line-missing bs text (sym (m .pass-part .ensures) ∙ c .enum-told .given .1)))
 
 pass-variables-requires : tie.Need-pass-variables-requires
 pass-variables-requires c κs = search needs
@@ -46,7 +46,7 @@ returns-2 c =
     let bs = signsIn (s .variables) 1 (drop 16 text) in
     let (at, line) = line-follows bs text _ (sym (m .pass-part .ensures) ∙ f .mark .given .1) in
     let step = line ∙ sym (rw at at (v .pass-variables .ensures)) ∙ c .enum-told2 .given .1 in
-    ap claimAnswer (sym (line-wrong bs text step))
+    rw (line-wrong bs text step)
 
 returns-3 : tie.Need-returns-3
 returns-3 c =
@@ -58,7 +58,7 @@ returns-3 c =
     let bs = signsIn (s .variables) 1 (drop 16 text) in
     let (at, line) = line-follows bs text _ (sym (m .pass-part .ensures) ∙ f .mark .given .1) in
     let step = line ∙ sym (rw at at (v .pass-variables .ensures)) ∙ c .before .before .line .given .1 in
-    ap claimAnswer (sym (line-not-last bs text _ step (c .if1 .taken)))
+    rw (line-not-last bs text _ step (c .if1 .taken))
 
 returns-4 : tie.Need-returns-4
 returns-4 c =
@@ -70,7 +70,7 @@ returns-4 c =
     let bs = signsIn (s .variables) 1 (drop 16 text) in
     let (at, line) = line-follows bs text _ (sym (m .pass-part .ensures) ∙ f .mark .given .1) in
     let step = line ∙ sym (rw at at (v .pass-variables .ensures)) ∙ c .before .before .line .given .1 in
-    ap claimAnswer (sym (line-alone bs text _ step (c .if1 .left)))
+    rw (line-alone bs text _ step (c .if1 .left))
 
 pub judge-model-spec : {M : Type 1} → statement M
 judge-model-spec =

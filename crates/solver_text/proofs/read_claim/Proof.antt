@@ -1,5 +1,4 @@
 -- `solver_text::read_claim` meets its contract. Assumes nothing.
-use mathlib.Core.Path.{sym, _∙_}
 use Rattle.solver_text.proofs.Answers.{too-short, variables-stand, claim-refused, claim-none, claim-model}
 use borrow.Author.Needs.{needs}
 use Rattle.solver_text.proofs.read_claim.Statement.{statement}
@@ -26,7 +25,7 @@ put-model-requires : tie.Need-put-model-requires
 put-model-requires c κs =
     let j = c .before .before .before in
     let s = j .before .before .before .before .args in
-    (j .before .if1 .left, variables-stand (s .variables) (s .text .now) (sym (c .before .enum-told3 .given .1) ∙ j .judge .ensures))
+    (j .before .if1 .left, variables-stand (s .variables) (s .text .now) (rw (c .before .enum-told3 .given .1) at (j .judge .ensures)))
 
 returns-2 : tie.Need-returns-2
 returns-2 c =
