@@ -9,6 +9,7 @@ use Rattle.circuit.specs.Literals.{Lit, slot}
 use Rattle.circuit.specs.Circuits.{Circuit, ret, _>>=_, gates, out}
 use Rattle.circuit.specs.Numbers.{expansion}
 use Rattle.circuit.specs.Counting.{expandedWidth}
+use Rattle.circuit.proofs.Lengths.{bind-assoc, gates-same, out-same}
 use Rattle.sheet.specs.Acceptance.{larger}
 use Rattle.sheet.specs.Steps.{Cell, cell, booleanCell, numberCell, least, brought}
 use Rattle.frame.specs.declared.Number.{Number}
@@ -16,7 +17,6 @@ use Rattle.frame.specs.declared.Made.{Made}
 use Rattle.frame.specs.declared.Truth.{Truth}
 use Rattle.frame.specs.Literals.{literals, IsLit, IsNumber, slotsIn, literalsIn}
 use Rattle.frame.specs.Written.{Room, Wrote}
-use Rattle.frame.proofs.Leave.{bind-assoc, gates-same, out-same}
 use Rattle.frame.proofs.Literals.{literals-of}
 use Rattle.frame.proofs.Writing as writing
 use Rattle.literal_map.specs.declared.Operand.{Operand}

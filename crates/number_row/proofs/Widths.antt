@@ -1,5 +1,5 @@
 -- How wide a number is after it was brought to another denominator, whatever its literals name. Assumes nothing.
-use mathlib.Core.Path.{_≡_, refl, sym, ap, ap₂, _∙_}
+use mathlib.Core.Path.{_≡_, refl, sym, ap, _∙_}
 use mathlib.Core.Bool.{Bool, true, false}
 use mathlib.Core.List.{List, [], _∷_}
 use Prim.Native.Nat.{ℕ, zero, suc, _+_, _*_, _/_, _≤_, _<_}
@@ -13,12 +13,11 @@ use Rattle.whole.specs.Bits.{fewest, extended}
 use Rattle.whole.specs.Divisors.{gcd, lcm}
 use Rattle.whole.proofs.Extended.{extended-length}
 use Rattle.circuit.specs.Literals.{Lit, plus, falsity}
-use Rattle.circuit.specs.Circuits.{Circuit, ret, _>>=_, gates, out}
+use Rattle.circuit.specs.Circuits.{Circuit, ret, _>>=_, out}
 use Rattle.circuit.specs.Numbers.{constant, adder, ands, addRows, multiplier, product, expansion}
 use Rattle.circuit.specs.Counting.{expandedWidth}
 use Rattle.circuit.proofs.Bounds.{constant-lits}
-use Rattle.circuit.proofs.Lengths.{out-bind}
-use Rattle.frame.proofs.Leave.{after, out-same}
+use Rattle.circuit.proofs.Lengths.{out-bind, after, out-same}
 use Rattle.numbers.specs.Bounds.{Denominator}
 
 adder-length : (xs ys : List Lit) (n : ℕ) (c : Lit) → length xs ≡ length ys → length (out n (adder c xs ys)) ≡ length xs

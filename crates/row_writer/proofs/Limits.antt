@@ -8,13 +8,13 @@ use lib.Dec.{ltb}
 use lib.IntN.{ℤ}
 use lib.ListN.{length}
 use borrow.Author.Tests.{ltb-false}
-use Rattle.circuit.specs.Literals.{Lit, falsity}
+use Rattle.circuit.specs.Literals.{falsity}
 use Rattle.circuit.specs.Circuits.{gates}
 use Rattle.circuit.specs.Numbers.{unknown}
+use Rattle.circuit.proofs.Lengths.{gates-same}
 use Rattle.sheet.specs.Acceptance.{outside}
-use Rattle.sheet.specs.Steps.{Cell, cell, numberCell, withSign}
+use Rattle.sheet.specs.Steps.{cell, numberCell, withSign}
 use Rattle.frame.specs.Written.{Room}
-use Rattle.frame.proofs.Leave.{gates-same}
 use Rattle.leaf_row.proofs.Fresh.{unknown-many}
 
 left-false : (a b : Bool) → (a || b) ≡ false → a ≡ false
