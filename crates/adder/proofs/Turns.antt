@@ -8,8 +8,8 @@ use lib.ListN.{length}
 use Rattle.circuit.specs.Literals.{Lit, plus}
 use Rattle.circuit.specs.Circuits.{gates, out}
 use Rattle.circuit.specs.Numbers.{adder}
+use Rattle.circuit.proofs.Lengths.{gates-same, out-same}
 use Rattle.frame.specs.Literals.{literalAt, between}
-use Rattle.frame.proofs.Leave.{gates-same, out-same}
 use Rattle.frame.proofs.Literals.{between-cons, between-none}
 use Rattle.adder.specs.Adding.{bitGates}
 

@@ -1,24 +1,22 @@
 -- What Boolean rows make: one literal. Assumes nothing.
-use mathlib.Core.Path.{_≡_, refl, sym, _∙_}
+use mathlib.Core.Path.{_≡_, refl, _∙_}
 use mathlib.Core.List.{List, [], _∷_}
 use Prim.Native.Nat.{ℕ, zero, suc, _+_, _≤_}
-use native.Mathlib.Nat.{add-zero}
 use native.Mathlib.Omega.{arith}
 use lib.IntN.{ℤ, pos}
 use lib.ListN.{length, getD, take}
 use Rattle.circuit.specs.Literals.{Lit, plus, neg, falsity, slot}
 use Rattle.circuit.specs.Gates.{Gate, free}
 use Rattle.circuit.specs.Circuits.{Circuit, ret, make, out}
+use Rattle.circuit.proofs.Lengths.{gates-same, out-same}
 use Rattle.sheet.specs.Steps.{Cell, cell, booleanCell, negated}
 use Rattle.frame.specs.declared.Made.{Made}
 use Rattle.frame.specs.declared.Truth.{Truth}
 use Rattle.frame.specs.Frame.{over}
 use Rattle.frame.specs.Literals.{unslot, literals, literalsIn, IsLit, IsNumber}
-use Rattle.frame.specs.Written.{written, Wrote}
-use Rattle.frame.proofs.Frames.{over-none}
-use Rattle.frame.proofs.Leave.{gates-same, out-same}
+use Rattle.frame.specs.Written.{written}
 use Rattle.frame.proofs.Literals.{unslot-slot}
-use Rattle.frame.proofs.Writing.{size, wrote-of}
+use Rattle.frame.proofs.Writing.{size, wrote-nothing, wrote-none, wrote-of}
 use Rattle.literal_map.specs.Rows.{RowMade, LitMade}
 
 -- the first literal of some
@@ -29,10 +27,6 @@ first-literal (suc w) (x ∷ l) h k = refl
 
 abbrev one : Lit → Cell
 one l = cell (l ∷ []) 1
-
--- gates that write nothing
-pub wrote-nothing : (from first : ℕ) (gs : List Gate) (l : List ℤ) {at next : ℕ} → written first gs ≡ [] → at ≡ from → next ≡ first + length gs → Wrote from first gs l l at next
-wrote-nothing from first gs l e f g = record { slots = rw e (sym (over-none from l)); place = rw e (f ∙ sym (add-zero from)); number = g }
 
 module _ {from first : ℕ} {before after : List ℤ} where
   -- a row of the literal
@@ -56,13 +50,12 @@ module _ {from first : ℕ} {before after : List ℤ} where
   -- one gate, over the slots from `from` on
   pub gate-made : (g : Gate) {x : ℤ} {at next : ℕ} → after ≡ over from (written first (g ∷ [])) before → at ≡ from + size (g ∷ []) → next ≡ first + 1 → (x ≡ slot (plus first)) × IsLit x
       → LitMade from first (make g) before after (record { literal = x; at = at; next = next })
-  gate-made g e f h k = record { wrote = rw (f, h) (wrote-of from first (g ∷ []) before e); literal = k .0; is-lit = k .1 }
+  gate-made g e f h k = record { wrote = rw (f, h) (wrote-of (g ∷ []) e); literal = k .0; is-lit = k .1 }
 
 -- a literal that is known, and that of a new variable
 module _ {from first : ℕ} (slots : List ℤ) {x : ℤ} where
   pub known-made : (l : Lit) → (x ≡ slot l) × IsLit x → LitMade from first (ret l) slots slots (record { literal = x; at = from; next = first })
-  unfolding written
-  known-made l e = record { wrote = wrote-nothing from first [] slots refl refl (sym (add-zero first)); literal = e .0; is-lit = e .1 }
+  known-made l e = record { wrote = wrote-none from first slots; literal = e .0; is-lit = e .1 }
 
   pub free-made : (x ≡ slot (plus first)) × IsLit x → LitMade from first (make free) slots slots (record { literal = x; at = from; next = first + 1 })
   unfolding written

@@ -9,8 +9,8 @@ use Rattle.circuit.specs.Literals.{Lit, plus}
 use Rattle.circuit.specs.Gates.{mux}
 use Rattle.circuit.specs.Circuits.{gates, out}
 use Rattle.circuit.specs.Numbers.{muxes}
+use Rattle.circuit.proofs.Lengths.{gates-same, out-same}
 use Rattle.frame.specs.Literals.{literalAt, between}
-use Rattle.frame.proofs.Leave.{gates-same, out-same}
 use Rattle.frame.proofs.Literals.{between-cons, between-none}
 
 module _ (i w : ℕ) (x y : List ℤ) (c : Lit) (n : ℕ) where

@@ -81,9 +81,6 @@ literals-put w l i v p k q j h = go (decLt j i) (decLt i j)
         let e : i ≡ j = omega arith in
         rw (e, getD-set-same l j v (pos 0) (omega arith)) q
 
-pub literals-less : (v w : ℕ) (l : List ℤ) → AllLit w l → v ≤ w → AllLit v l
-literals-less v w l p h j k = p j (omega arith)
-
 -- literals written as numbers are read back
 pub literals-of : (ls : List Lit) → literals (map slot ls) ≡ ls
 literals-of [] = refl

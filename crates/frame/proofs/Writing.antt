@@ -1,7 +1,7 @@
--- Writing is a way of doing gates: each leaves its slots written and the place where they go on. The laws of loops and of circuits one after
--- the other, as the writers use them. Assumes nothing.
+-- Gates written one after the other: how many slots they take, what a loop that writes them keeps, and circuits one after the other. Assumes
+-- nothing.
 use mathlib.Core.Path.{_≡_, refl, sym, ap, _∙_}
-use mathlib.Core.List.{List, [], _∷_, _++_}
+use mathlib.Core.List.{List, [], _∷_, _++_, append-assoc, append-nil}
 use Prim.Native.Nat.{ℕ, suc, _+_, _-_, _≤_, _<_}
 use native.Mathlib.Nat.{add-zero}
 use native.Mathlib.Omega.{arith}
@@ -12,12 +12,10 @@ use Rattle.circuit.specs.Literals.{slotsOf}
 use Rattle.circuit.specs.Gates.{Gate, gateClauses}
 use Rattle.circuit.specs.Circuits.{Circuit, _>>=_, gates, out, clausesFrom}
 use Rattle.circuit.proofs.Costs.{gateCounts}
-use Rattle.circuit.proofs.Lengths.{slotsOf-append, clausesFrom-append, gate-lengths}
+use Rattle.circuit.proofs.Lengths.{after, gates-bind, out-bind, slotsOf-append, clausesFrom-append, gate-lengths}
 use Rattle.frame.specs.Frame.{front, over}
 use Rattle.frame.specs.Written.{written, Room, Wrote}
 use Rattle.frame.proofs.Frames.{over-over, over-none, front-then, length-over, lent}
-use Rattle.frame.proofs.Leave as doing
-use Rattle.frame.proofs.Leave.{leave, Way, Done, Left}
 
 -- ---- what gates write
 pub written-append : (n : ℕ) (us vs : List Gate) → written n (us ++ vs) ≡ written n us ++ written (n + length us) vs
@@ -27,7 +25,7 @@ written-append n us vs = rw (clausesFrom-append n us vs) (slotsOf-append (clause
 length-written : (n : ℕ) (us vs : List Gate) → length (written n (us ++ vs)) ≡ length (written n us) + length (written (n + length us) vs)
 length-written n us vs = ap length (written-append n us vs) ∙ length-append (written n us) (written (n + length us) vs)
 
-written-none : (n : ℕ) → written n [] ≡ []
+pub written-none : (n : ℕ) → written n [] ≡ []
 unfolding written
 written-none n = refl
 
@@ -51,92 +49,80 @@ front-gates m n k us vs l {l′} {part} e f g h =
     lent m (written k vs) l′ part h
     ∙ rw (g, f, written-append n us vs) (front-then m (written n us) (written (n + length us) vs) l (e ∙ sym (written-size n us)))
 
--- ---- the way
-pub record Slots : Type 0 where
-  pub slots : List ℤ
-  pub at : ℕ
+-- ---- one part of the gates after the other
+-- there is room for the first part
+pub room-first : {at n : ℕ} (us vs : List Gate) {l : List ℤ} → Room at n (us ++ vs) l → Room at n us l
+room-first {n = n} us vs r = record { place = omega (arith, r .place, length-written n us vs); number = omega (arith, r .number, length-append us vs) }
 
-abbrev pub slotsAt : List ℤ → ℕ → Slots
-slotsAt l at = record { slots = l; at = at }
+-- no length changes
+pub wrote-long : {at n : ℕ} {gs : List Gate} {l l′ : List ℤ} {at′ n′ : ℕ} → Room at n gs l → Wrote at n gs l l′ at′ n′ → length l′ ≡ length l
+wrote-long {at} {n} {gs} {l} r w = rw (w .slots) (length-over at (written n gs) l (r .place))
 
-same-slots : {l m : List ℤ} {at to : ℕ} → l ≡ m → at ≡ to → slotsAt l at ≡ slotsAt m to
-same-slots e f = λ i. record { slots = e i; at = f i }
+-- when it is written, there is room for the second
+pub room-next : {at n : ℕ} (us vs : List Gate) {l l′ : List ℤ} {at′ n′ : ℕ} → Room at n (us ++ vs) l → Wrote at n us l l′ at′ n′ → Room at′ n′ vs l′
+room-next {n = n} us vs r w =
+    let e = wrote-long (room-first us vs r) w in
+    rw (w .number)
+    (record {
+      place = omega (arith, r .place, w .place, e, length-written n us vs);
+      number = omega (arith, r .number, length-append us vs);
+    })
 
-abbrev pub writes : ℕ → Gate → Slots → Slots
-writes n g s = slotsAt (over (s .at) (written n (g ∷ [])) (s .slots)) (s .at + length (written n (g ∷ [])))
+-- both are written
+pub wrote-then : {from first : ℕ} (us vs : List Gate) {before l after : List ℤ} {at n at′ n′ : ℕ} → from ≤ length before
+    → Wrote from first us before l at n → Wrote at n vs l after at′ n′ → Wrote from first (us ++ vs) before after at′ n′
+wrote-then {from} {first} us vs {before} {at = at} h p q =
+    let v = rw (p .number) at q in
+    let second = written (first + length us) vs in
+    record {
+      slots = v .slots ∙ rw (p .slots, written-append first us vs) (over-over from at (written first us) second before h (p .place));
+      place = omega (arith, p .place, v .place, length-written first us vs);
+      number = omega (arith, v .number, length-append us vs);
+    }
 
--- there is room for the first part, and then for the second
-pub room-first : (at n : ℕ) (us vs : List Gate) (l : List ℤ) → Room at n (us ++ vs) l → Room at n us l
-room-first at n us vs l r = record { place = omega (arith, length-written n us vs); number = omega (arith, length-append us vs) }
+-- gates that write nothing, and no gates
+pub wrote-nothing : (from first : ℕ) (gs : List Gate) (l : List ℤ) {at next : ℕ} → written first gs ≡ [] → at ≡ from → next ≡ first + length gs → Wrote from first gs l l at next
+wrote-nothing from first gs l e f g = record { slots = rw e (sym (over-none from l)); place = rw e (f ∙ sym (add-zero from)); number = g }
 
-pub room-over : (at n : ℕ) (us vs : List Gate) (l : List ℤ) → Room at n (us ++ vs) l
-    → Room (at + length (written n us)) (n + length us) vs (over at (written n us) l)
-room-over at n us vs l r =
-    let k = length-written n us vs in
-    let e : length (over at (written n us) l) ≡ length l = length-over at (written n us) l (omega arith) in
-    record { place = rw e (omega arith); number = omega (arith, length-append us vs) }
-
-pub leave-writes : (gs : List Gate) (n at : ℕ) (l : List ℤ) → Room at n gs l
-    → leave writes n gs (slotsAt l at) ≡ slotsAt (over at (written n gs) l) (at + length (written n gs))
-leave-writes [] n at l r = sym (same-slots (rw (written-none n) (over-none at l)) (rw (written-none n) (add-zero at)))
-leave-writes (g ∷ gs) n at l r =
-    let one : List Gate = g ∷ [] in
-    let e : n + length one ≡ suc n = omega arith in
-    let w = rw e at (written-append n one gs) in
-    let k = rw e at (length-written n one gs) in
-    let t = rw e at (room-over at n one gs l r) in
-    leave-writes gs (suc n) (at + length (written n one)) (over at (written n one) l) t
-    ∙ same-slots
-    (over-over at (at + length (written n one)) (written n one) (written (suc n) gs) l (omega arith) refl ∙ ap (λ v. over at v l) (sym w))
-    (omega arith)
-
-abbrev pub writing : Way Slots
-writing = record {
-  step = writes;
-  Room = λ n gs s. Room (s .at) n gs (s .slots);
-  long = λ s. length (s .slots);
-  room-first = λ n us vs s r. room-first (s .at) n us vs (s .slots) r;
-  room-next = λ n us vs s r. rw (leave-writes us n (s .at) (s .slots) (room-first (s .at) n us vs (s .slots) r)) (room-over (s .at) n us vs (s .slots) r);
-  keeps = λ n us s r. rw (leave-writes us n (s .at) (s .slots) r) (length-over (s .at) (written n us) (s .slots) (r .place));
-}
-
--- ---- what was written is done, and the other way
-module _ {at n : ℕ} {gs : List Gate} {l l′ : List ℤ} {at′ n′ : ℕ} (r : Room at n gs l) where
-  pub wrote-done : Wrote at n gs l l′ at′ n′ → Done writing n gs (slotsAt l at) (slotsAt l′ at′) n′
-  wrote-done w = record { state = same-slots (w .slots) (w .place) ∙ sym (leave-writes gs n at l r); number = w .number }
-
-  pub done-wrote : Done writing n gs (slotsAt l at) (slotsAt l′ at′) n′ → Wrote at n gs l l′ at′ n′
-  done-wrote d =
-      let e = d .state ∙ leave-writes gs n at l r in
-      record { slots = ap (λ s. s .slots) e; place = ap (λ s. s .at) e; number = d .number }
-
--- no gates leave everything as it is
-pub wrote-none : (at n : ℕ) (l : List ℤ) → Wrote at n [] l l at n
-wrote-none at n l =
-    let z : length (written n []) ≡ 0 = ap length (written-none n) in
-    record { slots = rw (written-none n) (sym (over-none at l)); place = omega arith; number = omega arith }
+pub wrote-none : (from first : ℕ) (l : List ℤ) → Wrote from first [] l l from first
+wrote-none from first l = wrote-nothing from first [] l (written-none first) refl (sym (add-zero first))
 
 -- what is written is known, and what room there is
-pub wrote-of : (at n : ℕ) (gs : List Gate) (l : List ℤ) {m : List ℤ} → m ≡ over at (written n gs) l → Wrote at n gs l m (at + size gs) (n + length gs)
-wrote-of at n gs l e = record { slots = e; place = rw (written-size n gs); number = refl }
+pub wrote-of : {at n : ℕ} (gs : List Gate) {l l′ : List ℤ} → l′ ≡ over at (written n gs) l → Wrote at n gs l l′ (at + size gs) (n + length gs)
+wrote-of {n = n} gs e = record { slots = e; place = rw (written-size n gs); number = refl }
 
 pub room-of : {at n : ℕ} (gs : List Gate) {l : List ℤ} → Room at n gs l → (at + size gs ≤ length l) × (n + length gs < 2147483648)
 room-of {n = n} gs r = (rw (written-size n gs) at (r .place), r .number)
 
--- ---- loops
-module _ {l₀ : List ℤ} {from first : ℕ} {all : List Gate} {l : List ℤ} {at n : ℕ} {gs : List Gate} (p : Left writing (slotsAt l₀ from) first all (slotsAt l at) n gs) where
-  -- a part is written from the place `at` on
-  pub part-done : (us vs : List Gate) {l′ : List ℤ} → gs ≡ us ++ vs → l′ ≡ over at (written n us) l
-      → Done writing n us (slotsAt l at) (slotsAt l′ (at + size us)) (n + length us)
-  part-done us vs e d = wrote-done (doing.left-room p us vs e) (wrote-of at n us l d)
+-- ---- loops: of the gates `all` some are written, and gs are left
+pub record Left (from first : ℕ) (all : List Gate) (before after : List ℤ) (at next : ℕ) (gs : List Gate) : Type 0 where
+  pub done : List Gate
+  pub split : all ≡ done ++ gs
+  pub wrote : Wrote from first done before after at next
+  pub room : Room at next gs after
+  pub long : length after ≡ length before
 
-  pub left-wrote : (us vs : List Gate) {l′ : List ℤ} {at′ n′ : ℕ} → gs ≡ us ++ vs → Wrote at n us l l′ at′ n′
-      → Left writing (slotsAt l₀ from) first all (slotsAt l′ at′) n′ vs
-  left-wrote us vs e w = doing.left-step p us vs e (wrote-done (doing.left-room p us vs e) w)
+pub left-all : {from first : ℕ} {gs : List Gate} {l : List ℤ} → Room from first gs l → Left from first gs l l from first gs
+left-all {from} {first} {l = l} r = record { done = []; split = refl; wrote = wrote-none from first l; room = r; long = refl }
+
+module _ {from first : ℕ} {all : List Gate} {before l : List ℤ} {at n : ℕ} {gs : List Gate} (p : Left from first all before l at n gs) where
+  -- there is room for the first part
+  pub left-room : (us vs : List Gate) → gs ≡ us ++ vs → Room at n us l
+  left-room us vs e = room-first us vs (rw e at (p .room))
+
+  -- it is written
+  pub left-step : (us vs : List Gate) {l′ : List ℤ} {at′ n′ : ℕ} → gs ≡ us ++ vs → Wrote at n us l l′ at′ n′ → Left from first all before l′ at′ n′ vs
+  left-step us vs e w = record {
+    done = p .done ++ us;
+    split = p .split ∙ rw e (sym (append-assoc (p .done) us vs));
+    wrote = wrote-then (p .done) us (omega (arith, p .wrote .place, p .room .place, p .long)) (p .wrote) w;
+    room = room-next us vs (rw e at (p .room)) w;
+    long = wrote-long (left-room us vs e) w ∙ p .long;
+  }
 
   -- nothing is left
-  pub left-none : gs ≡ [] → Room from first all l₀ → Wrote from first all l₀ l at n
-  left-none e r = done-wrote r (doing.left-none p e)
+  pub left-none : gs ≡ [] → Wrote from first all before l at n
+  left-none e = rw (p .split, e, append-nil) (p .wrote)
 
 -- what a turn over two arrays knows: they are long enough, and there are slots and numbers for its gates
 pub record Turn (x y : List ℤ) (w : ℕ) (slots : List ℤ) (at n taken made : ℕ) : Type 0 where
@@ -147,15 +133,21 @@ pub record Turn (x y : List ℤ) (w : ℕ) (slots : List ℤ) (at n taken made :
 
 -- ---- a circuit is written, then the one that its answer gives
 module _ {A B : Type 0} {at n : ℕ} {l : List ℤ} (p : Circuit A) (q : A → Circuit B) (r : Room at n (gates n (p >>= q)) l) where
+  abbrev second : List Gate
+  second = gates (after n p) (q (out n p))
+
+  both : Room at n (gates n p ++ second) l
+  both = rw (gates-bind n p q) at r
+
   pub bind-first : Room at n (gates n p) l
-  bind-first = doing.bind-first writing {s = slotsAt l at} p q r
+  bind-first = room-first (gates n p) second both
 
   module _ {l′ : List ℤ} {at′ n′ : ℕ} {answer : A} (w : Wrote at n (gates n p) l l′ at′ n′) (e : answer ≡ out n p) where
     pub bind-next : Room at′ n′ (gates n′ (q answer)) l′
-    bind-next = doing.bind-next writing p q (wrote-done bind-first w) e r
+    bind-next = rw (e, w .number) (room-next (gates n p) second both (rw (w .number) at w))
 
     pub bind-out : out n (p >>= q) ≡ out n′ (q answer)
-    bind-out = doing.bind-out writing p q (wrote-done bind-first w) e
+    bind-out = out-bind n p q ∙ rw (e, w .number)
 
     pub bind-wrote : {l″ : List ℤ} {at″ n″ : ℕ} → Wrote at′ n′ (gates n′ (q answer)) l′ l″ at″ n″ → Wrote at n (gates n (p >>= q)) l l″ at″ n″
-    bind-wrote v = done-wrote r (doing.bind-done writing p q (wrote-done bind-first w) e (wrote-done bind-next v))
+    bind-wrote v = rw (gates-bind n p q) (wrote-then (gates n p) second (omega (arith, r .place)) (rw (w .number) at w) (rw (e, w .number) at v))

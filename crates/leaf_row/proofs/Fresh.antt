@@ -11,16 +11,16 @@ use Rattle.circuit.specs.Literals.{Lit, plus, falsity, slot}
 use Rattle.circuit.specs.Circuits.{Circuit, gates, out}
 use Rattle.circuit.specs.Numbers.{unknown}
 use Rattle.circuit.proofs.Bounds.{bound, bound-snoc}
+use Rattle.circuit.proofs.Lengths.{gates-same, out-same}
 use Rattle.sheet.specs.Steps.{Cell, cell, numberCell, withSign}
 use Rattle.frame.specs.declared.Made.{Made}
 use Rattle.frame.specs.declared.Number.{Number}
 use Rattle.frame.specs.Literals.{literals, literalsIn, IsNumber}
 use Rattle.frame.specs.Written.{written}
-use Rattle.frame.proofs.Leave.{gates-same, out-same}
 use Rattle.frame.proofs.Literals.{literals-of}
+use Rattle.frame.proofs.Writing.{wrote-nothing}
 use Rattle.literal_map.specs.Rows.{RowMade}
 use Rattle.literal_map.proofs.Reading.{slots-are}
-use Rattle.boolean_row.proofs.Lone.{wrote-nothing}
 
 -- p variables from n on
 abbrev pub fresh : (n p : ℕ) → List Lit
@@ -77,10 +77,6 @@ pub front-number : (ls : List Lit) (rest : List ℤ) (n : ℕ) {r : Number} → 
 front-number ls rest n {r} e k some fits low few =
     let first : take (r .width) (map slot ls ++ rest) ≡ map slot ls = take-at (map slot ls) rest (r .width) (length-map ls slot ∙ k) in
     (rw e (ap literals first ∙ literals-of ls), record { some = some; fits = fits; all = rw (e, ← k) (slots-are n ls rest few low) })
-
-pub nothing-written : (n : ℕ) → written n [] ≡ []
-unfolding written
-nothing-written n = refl
 
 -- a row that writes nothing
 module _ (z : ℕ) (c : Circuit (List Lit)) {from first : ℕ} {m : Made} where

@@ -9,7 +9,6 @@ ghost use Rattle.circuit.specs.Circuits.{ret, out};
 ghost use Rattle.circuit.specs.Numbers.{unknown, constant};
 ghost use Rattle.sheet.specs.Rows.{constantIn};
 ghost use Rattle.sheet.specs.Steps.{numberCell, withSign};
-ghost use Rattle.frame.specs.Literals.{slotsIn, IsNumber};
 ghost use Rattle.literal_map.specs.Rows.{RowKnown};
 use frame::Made;
 use frame::Number;
@@ -62,22 +61,13 @@ pub fn natural(from: usize, first: u32, p: u8) -> Made
     }
 }
 
-// The number whose halves are x and y, in two's complement.
-fn halves(x: u16, y: u16) -> Number
-    ensures { λ r. ⌜ slotsIn r ≡ map slot (constant (constantIn x y)) ⌝ ∗ ⌜ IsNumber r ⌝ }
-{
-    let word = (x as u32) * 65536 + (y as u32);
-    if word < 0x8000_0000 {
-        return literals::constant(word, false);
-    }
-    literals::constant(0xffff_ffff - word, true)
-}
-
 pub fn constant(from: usize, first: u32, x: u16, y: u16) -> Made
     ensures { λ r. ⌜ ((z : ℕ) → RowKnown from first (numberCell z (ret (constant (constantIn x y)))) r) ⌝ }
 {
+    let c = numbers::constant(x, y);
+    let number = literals::constant(c.magnitude, c.negative);
     Made {
-        number: halves(x, y),
+        number,
         at: from,
         next: first,
     }

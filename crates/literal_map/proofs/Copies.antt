@@ -1,16 +1,15 @@
 -- What a copy over the front of an array holds: a row's literals as they are loaded, and its 48 places. Assumes nothing.
-use mathlib.Core.Path.{_≡_, refl, sym, ap, ap₂, _∙_}
-use mathlib.Core.List.{List, [], _∷_, _++_, map}
+use mathlib.Core.Path.{_≡_, sym, ap, _∙_}
+use mathlib.Core.List.{List, _++_}
 use Prim.Native.Nat.{ℕ, zero, suc, _+_, _-_, _≤_}
 use native.Mathlib.Omega.{arith}
 use lib.IntN.{ℤ, pos}
 use lib.ListN.{length, getD, take, drop, replicate, length-drop, length-map}
 use lib.Seq.{getD-take, take-at, length-take-le}
-use Rattle.circuit.specs.Literals.{slot}
 use Rattle.sheet.specs.Steps.{page}
 use Rattle.frame.specs.Frame.{front}
 use Rattle.frame.specs.Literals.{literals, AllLit}
-use Rattle.frame.proofs.Literals.{slot-unslot}
+use Rattle.frame.proofs.Literals.{slots-between}
 
 -- the first places are those of another list
 pub first-same : (w : ℕ) (l m : List ℤ) → take w l ≡ take w m → AllLit w m → AllLit w l
@@ -26,12 +25,6 @@ loaded n w m start l h k e =
     let long : length v ≡ w = length-take-le w (drop n l) (rw length-drop (omega arith)) in
     ap (take w) (rw k at e) ∙ take-at v (drop (length v) start) w long
 
--- literals are read and written as they are
-slots-of : (w : ℕ) (l : List ℤ) → AllLit w l → w ≤ length l → map slot (literals (take w l)) ≡ take w l
-slots-of zero l h k = refl
-slots-of (suc w) [] h k = absurd (omega arith)
-slots-of (suc w) (x ∷ l) h k = ap₂ (λ (y : ℤ) (ys : List ℤ). y ∷ ys) (slot-unslot x (h 0 (omega arith))) (slots-of w l (λ i q. h (suc i) (omega arith)) (omega arith))
-
 drop-zeros : (w n : ℕ) → drop w (replicate n (pos 0)) ≡ replicate (n - w) (pos 0)
 drop-zeros zero n = let e : n - 0 ≡ n = omega arith in rw e
 drop-zeros (suc w) zero = let e : 0 - suc w ≡ 0 = omega arith in rw e
@@ -43,4 +36,4 @@ unfolding front
 paged w l h k =
     let long : length (take w l) ≡ w = length-take-le w l k in
     let many : length (literals (take w l)) ≡ w = length-map (take w l) _ ∙ long in
-    rw (slots-of w l h k, many, long) (ap (λ (v : List ℤ). take w l ++ v) (drop-zeros w 48))
+    rw (slots-between 0 w l h k, many, long) (ap (λ (v : List ℤ). take w l ++ v) (drop-zeros w 48))

@@ -9,7 +9,7 @@ use native.Mathlib.Omega.{arith}
 use Rattle.whole.specs.Bits.{odd, bitsOf, digits}
 use Rattle.circuit.specs.Literals.{known}
 use Rattle.circuit.specs.Numbers.{constant}
-use Rattle.literals.specs.Signed.{signed}
+use Rattle.numbers.specs.Signed.{signed}
 
 -- the bits of a number whose magnitude n has at most s digits
 unfoldable pub bitsLeft : Bool → (s n : ℕ) → List Bool

@@ -8,7 +8,7 @@ ghost use Rattle.whole.specs.Bits.{odd, extended};
 ghost use Rattle.circuit.specs.Literals.{neg, known, slot};
 ghost use Rattle.circuit.specs.Numbers.{constant};
 ghost use Rattle.frame.specs.Literals.{literals, IsLit, AllLit, IsNumber, slotsIn};
-ghost use Rattle.literals.specs.Signed.{signed};
+ghost use Rattle.numbers.specs.Signed.{signed};
 
 // The larger of two widths.
 pub fn larger(a: usize, b: usize) -> usize

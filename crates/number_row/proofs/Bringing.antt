@@ -1,14 +1,16 @@
 -- Two numbers are brought to one denominator, then the operation on them is written. Assumes nothing.
 use mathlib.Core.Path.{_≡_, sym, ap, _∙_}
 use mathlib.Core.List.{List, [], _∷_, map}
-use Prim.Native.Nat.{ℕ, _/_, _≤_}
+use Prim.Native.Nat.{ℕ, _*_, _/_, _≤_, _<_}
+use native.Mathlib.Nat.{le-trans, mul-le-mul, div-le-self}
 use native.Mathlib.Omega.{arith}
 use lib.IntN.{ℤ}
-use lib.ListN.{length}
+use Rattle.whole.specs.Divisors.{gcd, lcm}
 use Rattle.circuit.specs.Literals.{Lit, slot}
 use Rattle.circuit.specs.Circuits.{Circuit, ret, _>>=_, gates, out}
 use Rattle.circuit.specs.Numbers.{expansion}
 use Rattle.circuit.specs.Counting.{expandedWidth}
+use Rattle.circuit.proofs.Lengths.{bind-assoc, gates-same, out-same}
 use Rattle.sheet.specs.Acceptance.{larger}
 use Rattle.sheet.specs.Steps.{Cell, cell, booleanCell, numberCell, least, brought}
 use Rattle.frame.specs.declared.Number.{Number}
@@ -16,16 +18,14 @@ use Rattle.frame.specs.declared.Made.{Made}
 use Rattle.frame.specs.declared.Truth.{Truth}
 use Rattle.frame.specs.Literals.{literals, IsLit, IsNumber, slotsIn, literalsIn}
 use Rattle.frame.specs.Written.{Room, Wrote}
-use Rattle.frame.proofs.Leave.{bind-assoc, gates-same, out-same}
 use Rattle.frame.proofs.Literals.{literals-of}
-use Rattle.frame.proofs.Writing as writing
+use Rattle.frame.proofs.Writing.{bind-first, bind-next, bind-out, bind-wrote}
+use Rattle.numbers.specs.Bounds.{Denominator}
 use Rattle.literal_map.specs.declared.Operand.{Operand}
 use Rattle.literal_map.specs.Cells.{IsOperand, cellOf}
 use Rattle.literal_map.specs.Rows.{RowMade, LitMade}
-use Rattle.operation.proofs.Widened.{literals-length}
 use Rattle.number_row.specs.declared.Pair.{Pair}
 use Rattle.number_row.specs.Bringing.{both, PairMade}
-use Rattle.number_row.proofs.Widths.{expansion-length}
 
 -- the literals of both, then the operation on them
 module _ {A : Type 0} (a b : Cell) (made : List Lit → List Lit → Circuit A) where
@@ -40,23 +40,19 @@ module _ {A : Type 0} (a b : Cell) (made : List Lit → List Lit → Circuit A) 
       (bind-assoc p (λ xs. q >>= λ ys. ret (xs, ys)) onBoth
       ∙ λ i. p >>= λ xs. bind-assoc q (λ ys. ret (xs, ys)) onBoth i)
 
--- a number that was expanded: its literals, and its width
-module _ (f n : ℕ) (a x : Number) (e : slotsIn x ≡ map slot (out n (expansion f (literalsIn a)))) where
-  expanded-literals : literalsIn x ≡ out n (expansion f (literalsIn a))
-  expanded-literals = ap literals e ∙ literals-of (out n (expansion f (literalsIn a)))
+-- a factor is below the limit of one
+least-most : (a b : ℕ) → Denominator a → Denominator b → lcm a b ≤ 4096 * 4096
+unfolding lcm
+least-most a b p q = mul-le-mul (le-trans (div-le-self a (gcd a b)) (p .most)) (q .most)
 
-  expanded-width : 1 ≤ a .width → a .width ≤ length (a .bits) → x .width ≤ length (x .bits) → x .width ≡ expandedWidth (a .width) f
-  expanded-width some long-a long-x =
-      let l = literals-length a long-a in
-      sym (literals-length x long-x)
-      ∙ ap length expanded-literals
-      ∙ expansion-length f (literalsIn a) n (omega arith)
-      ∙ ap (λ (w : ℕ). expandedWidth w f) l
+pub factor-most : (common a b d : ℕ) → common ≡ lcm a b → Denominator a → Denominator b → common / d < 2147483648
+factor-most common a b d e p q = omega (arith, e, least-most a b p q, div-le-self common d)
 
 -- what the writer of an expansion leaves and answers
 abbrev Expanded : (f : ℕ) → Number → (at n : ℕ) → (before after : List ℤ) → Made → Type 0
 Expanded f a at n before after m =
-    Wrote at n (gates n (expansion f (literalsIn a))) before after (m .at) (m .next) × ((slotsIn (m .number) ≡ map slot (out n (expansion f (literalsIn a)))) × IsNumber (m .number))
+    Wrote at n (gates n (expansion f (literalsIn a))) before after (m .at) (m .next)
+    × ((slotsIn (m .number) ≡ map slot (out n (expansion f (literalsIn a)))) × (IsNumber (m .number) × (m .number .width ≡ expandedWidth (a .width) f)))
 
 -- x is expanded, then y, over the least common multiple
 module _ (a b : Operand) (common : ℕ) (is-least : common ≡ least (cellOf a) (cellOf b)) where
@@ -89,14 +85,14 @@ module _ (a b : Operand) (common : ℕ) (is-least : common ≡ least (cellOf a) 
     room-both = rw is-both room
 
     pub first-room : Room from first (gates first expand-a) before
-    first-room = writing.bind-first expand-a rest room-both
+    first-room = bind-first expand-a rest room-both
 
     module _ {middle : List ℤ} {p : Made} (u : Expanded factor-a (a .number) from first before middle p) where
       abbrev xs : List Lit
       xs = literalsIn (p .number)
 
       xs-are : xs ≡ out first expand-a
-      xs-are = expanded-literals factor-a first (a .number) (p .number) (u .1 .0)
+      xs-are = ap literals (u .1 .0) ∙ literals-of (out first expand-a)
 
       same-gates : gates (p .next) (rest xs) ≡ gates (p .next) expand-b
       same-gates = gates-same {B = List Lit × List Lit} (p .next) expand-b (λ ys. (xs, ys))
@@ -105,36 +101,29 @@ module _ (a b : Operand) (common : ℕ) (is-least : common ≡ least (cellOf a) 
       same-out = out-same {B = List Lit × List Lit} (p .next) expand-b (λ ys. (xs, ys))
 
       pub second-room : Room (p .at) (p .next) (gates (p .next) expand-b) middle
-      second-room = rw same-gates at (writing.bind-next expand-a rest room-both {answer = xs} (u .0) xs-are)
+      second-room = rw same-gates at (bind-next expand-a rest room-both {answer = xs} (u .0) xs-are)
 
       module _ {after : List ℤ} {q : Made} (v : Expanded factor-b (b .number) (p .at) (p .next) middle after q) where
         both-wrote : Wrote from first (gates first (both (cellOf a) (cellOf b))) before after (q .at) (q .next)
         both-wrote =
             let w : Wrote (p .at) (p .next) (gates (p .next) (rest xs)) middle after (q .at) (q .next) = rw same-gates (v .0) in
-            rw is-both at (writing.bind-wrote expand-a rest room-both {answer = xs} (u .0) xs-are w)
+            rw is-both at (bind-wrote expand-a rest room-both {answer = xs} (u .0) xs-are w)
 
         both-out : (xs, literalsIn (q .number)) ≡ out first (both (cellOf a) (cellOf b))
         both-out =
-            ap (λ (ys : List Lit). (xs, ys)) (expanded-literals factor-b (p .next) (b .number) (q .number) (v .1 .0))
-            ∙ sym (writing.bind-out expand-a rest room-both {answer = xs} (u .0) xs-are ∙ same-out)
+            ap (λ (ys : List Lit). (xs, ys)) (ap literals (v .1 .0) ∙ literals-of (out (p .next) expand-b))
+            ∙ sym (bind-out expand-a rest room-both {answer = xs} (u .0) xs-are ∙ same-out)
             ∙ ap (out first) is-both
 
-        pub pair-made : IsOperand a → IsOperand b → a .number .width ≤ length (a .number .bits) → b .number .width ≤ length (b .number .bits)
-            → p .number .width ≤ length (p .number .bits) → q .number .width ≤ length (q .number .bits)
-            → PairMade from first a b before after (record { x = p .number; y = q .number; at = q .at; next = q .next })
-        pair-made is-a is-b long-a long-b long-p long-q =
-            let wide-x : p .number .width ≡ expandedWidth (a .number .width) factor-a
-            = expanded-width factor-a first (a .number) (p .number) (u .1 .0) (is-a .number .some) long-a long-p in
-            let wide-y : q .number .width ≡ expandedWidth (b .number .width) factor-b
-            = expanded-width factor-b (p .next) (b .number) (q .number) (v .1 .0) (is-b .number .some) long-b long-q in
-            record {
-              wrote = both-wrote;
-              literals = both-out;
-              number-x = u .1 .1;
-              number-y = v .1 .1;
-              width-x = wide-x ∙ rw (is-a .width, is-least);
-              width-y = wide-y ∙ rw (is-b .width, is-least);
-            }
+        pub pair-made : IsOperand a → IsOperand b → PairMade from first a b before after (record { x = p .number; y = q .number; at = q .at; next = q .next })
+        pair-made is-a is-b = record {
+          wrote = both-wrote;
+          literals = both-out;
+          number-x = u .1 .1 .0;
+          number-y = v .1 .1 .0;
+          width-x = u .1 .1 .1 ∙ rw (is-a .width, is-least);
+          width-y = v .1 .1 .1 ∙ rw (is-b .width, is-least);
+        }
 
 -- an operation over two rows
 module _ {A : Type 0} (a b : Operand) (made : List Lit → List Lit → Circuit A) {from first : ℕ} {before : List ℤ}
@@ -150,7 +139,7 @@ module _ {A : Type 0} (a b : Operand) (made : List Lit → List Lit → Circuit 
 
   -- there is room to bring them
   pub bring-room : Room from first (gates first pairs) before
-  bring-room = writing.bind-first pairs then joined
+  bring-room = bind-first pairs then joined
 
   module _ {middle : List ℤ} {p : Pair} (m : PairMade from first a b before middle p) where
     abbrev answer : List Lit × List Lit
@@ -158,14 +147,14 @@ module _ {A : Type 0} (a b : Operand) (made : List Lit → List Lit → Circuit 
 
     -- and then for the operation
     pub next-room : Room (p .at) (p .next) (gates (p .next) (made (literalsIn (p .x)) (literalsIn (p .y)))) middle
-    next-room = writing.bind-next pairs then joined {answer = answer} (m .wrote) (m .literals)
+    next-room = bind-next pairs then joined {answer = answer} (m .wrote) (m .literals)
 
     pub brought-out : out first (brought (cellOf a) (cellOf b) made) ≡ out (p .next) (made (literalsIn (p .x)) (literalsIn (p .y)))
-    brought-out = ap (out first) (brought-both (cellOf a) (cellOf b) made) ∙ writing.bind-out pairs then joined {answer = answer} (m .wrote) (m .literals)
+    brought-out = ap (out first) (brought-both (cellOf a) (cellOf b) made) ∙ bind-out pairs then joined {answer = answer} (m .wrote) (m .literals)
 
     pub brought-wrote : {end : List ℤ} {at next : ℕ} → Wrote (p .at) (p .next) (gates (p .next) (made (literalsIn (p .x)) (literalsIn (p .y)))) middle end at next
         → Wrote from first (gates first (brought (cellOf a) (cellOf b) made)) before end at next
-    brought-wrote w = rw (brought-both (cellOf a) (cellOf b) made) (writing.bind-wrote pairs then joined {answer = answer} (m .wrote) (m .literals) w)
+    brought-wrote w = rw (brought-both (cellOf a) (cellOf b) made) (bind-wrote pairs then joined {answer = answer} (m .wrote) (m .literals) w)
 
 -- a row of the number that a circuit answers
 module _ {from first : ℕ} {before : List ℤ} (d : ℕ) (c : Circuit (List Lit)) where

@@ -70,9 +70,13 @@ expansion-none factor xs e = rw (eq-eqb factor 1 e)
 pub expansion-is : (factor : ℕ) (xs : List Lit) → (factor ≡ 1 → ⊥) → expansion factor xs ≡ product xs (constant (pos factor))
 expansion-is factor xs h = rw (ne-eqb factor 1 h)
 
-pub expanded-width : (w factor : ℕ) → (factor ≡ 1 → ⊥) → expandedWidth w factor ≡ w + fewest (pos factor)
+pub width-same : (w factor : ℕ) → factor ≡ 1 → expandedWidth w factor ≡ w
 unfolding expandedWidth
-expanded-width w factor h = rw (ne-eqb factor 1 h)
+width-same w factor e = rw (eq-eqb factor 1 e)
+
+pub width-added : (w factor : ℕ) → (factor ≡ 1 → ⊥) → expandedWidth w factor ≡ w + fewest (pos factor)
+unfolding expandedWidth
+width-added w factor h = rw (ne-eqb factor 1 h)
 
 -- the array of a constant
 module _ (y : Number) (z : ℤ) (h : y .width ≤ length (y .bits)) (e : slotsIn y ≡ map slot (constant z)) where

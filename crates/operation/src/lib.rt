@@ -45,6 +45,7 @@ pub fn product(slots: &mut [i32], from: usize, x: Number, y: Number, first: u32)
     requires { ⌜ Room from first (gates first (product (literalsIn x) (literalsIn y))) (now slots) ⌝ }
     ensures wrote { λ r. ⌜ Wrote from first (gates first (product (literalsIn x) (literalsIn y))) (now (slots .entry)) (now (slots .exit)) (r .at) (r .next) ⌝ }
     ensures number { λ r. ⌜ slotsIn (r .number) ≡ map slot (out first (product (literalsIn x) (literalsIn y))) ⌝ ∗ ⌜ IsNumber (r .number) ⌝ }
+    ensures width { λ r. ⌜ r .number .width ≡ x .width + y .width ⌝ }
 {
     let width = x.width + y.width;
     let a = literals::widen(x, width);
@@ -58,6 +59,7 @@ pub fn expansion(slots: &mut [i32], from: usize, factor: u32, x: Number, first: 
     requires { ⌜ Room from first (gates first (expansion factor (literalsIn x))) (now slots) ⌝ }
     ensures wrote { λ r. ⌜ Wrote from first (gates first (expansion factor (literalsIn x))) (now (slots .entry)) (now (slots .exit)) (r .at) (r .next) ⌝ }
     ensures number { λ r. ⌜ slotsIn (r .number) ≡ map slot (out first (expansion factor (literalsIn x))) ⌝ ∗ ⌜ IsNumber (r .number) ⌝ }
+    ensures width { λ r. ⌜ r .number .width ≡ expandedWidth (x .width) factor ⌝ }
 {
     if factor == 1 {
         return Made {

@@ -11,9 +11,8 @@ use Rattle.circuit.specs.Literals.{Lit, plus, falsity}
 use Rattle.circuit.specs.Gates.{Gate, and}
 use Rattle.circuit.specs.Circuits.{Circuit, ret, _>>=_, gates, out}
 use Rattle.circuit.specs.Numbers.{adder, ands, addRows, multiplier}
-use Rattle.circuit.proofs.Lengths.{gates-bind, out-bind}
+use Rattle.circuit.proofs.Lengths.{gates-bind, out-bind, after, bind-assoc, gates-same, out-same}
 use Rattle.frame.specs.Literals.{unslot, literals, literalAt, between}
-use Rattle.frame.proofs.Leave.{after, bind-assoc, gates-same, out-same}
 use Rattle.frame.proofs.Literals.{between-cons, between-none}
 
 -- ---- a row of AND gates: bit j of x goes to place i

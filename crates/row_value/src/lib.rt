@@ -47,11 +47,9 @@ fn chosen_flag(v: i64) -> i64
 fn constant(x: u16, y: u16) -> i64
     ensures { λ r. ⌜ r ≡ constantIn x y ⌝ }
 {
-    let word = (x as u32) * 65536 + (y as u32);
-    if word < 0x8000_0000 {
-        return word as i64;
-    }
-    -1 - ((0xffff_ffff - word) as i64)
+    let c = numbers::constant(x, y);
+    let n = c.magnitude as i64;
+    if c.negative { -1 - n } else { n }
 }
 
 fn is_true(a: Operand) -> bool

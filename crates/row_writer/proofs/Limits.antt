@@ -1,30 +1,25 @@
 -- What the limits of a row tell of an unknown's variables. Assumes nothing.
-use mathlib.Core.Path.{_≡_, refl, ap, _∙_}
-use mathlib.Core.Bool.{Bool, true, false, _||_}
+use mathlib.Core.Path.{_≡_, ap, _∙_}
+use mathlib.Core.Bool.{false, _||_}
 use mathlib.Core.List.{List, [], _∷_, _++_}
 use Prim.Native.Nat.{ℕ, _+_, _≤_, _<_}
 use native.Mathlib.Omega.{arith}
-use lib.Dec.{ltb}
 use lib.IntN.{ℤ}
 use lib.ListN.{length}
-use borrow.Author.Tests.{ltb-false}
-use Rattle.circuit.specs.Literals.{Lit, falsity}
+use Rattle.circuit.specs.Literals.{falsity}
 use Rattle.circuit.specs.Circuits.{gates}
 use Rattle.circuit.specs.Numbers.{unknown}
+use Rattle.circuit.proofs.Lengths.{gates-same}
 use Rattle.sheet.specs.Acceptance.{outside}
-use Rattle.sheet.specs.Steps.{Cell, cell, numberCell, withSign}
+use Rattle.sheet.specs.Steps.{cell, numberCell, withSign}
+use Rattle.sheet.proofs.Tested.{neither, at-least}
 use Rattle.frame.specs.Written.{Room}
-use Rattle.frame.proofs.Leave.{gates-same}
 use Rattle.leaf_row.proofs.Fresh.{unknown-many}
-
-left-false : (a b : Bool) → (a || b) ≡ false → a ≡ false
-left-false true b h = h
-left-false false b h = refl
 
 pub integer-limits : (p z : ℕ) {from first : ℕ} {slots : List ℤ} → (outside 1 32 p || outside 1 4096 z) ≡ false → p ≤ 48 → Room from first (gates first (numberCell z (unknown p))) slots
     → (1 ≤ p) × ((p ≤ 48) × (first + p < 2147483648))
 integer-limits p z {first = first} h k r =
-    let low = ltb-false p 1 (left-false (ltb p 1) (ltb 32 p) (left-false (outside 1 32 p) (outside 1 4096 z) h)) in
+    let low = at-least 1 32 p (neither (outside 1 32 p) (outside 1 4096 z) h .0) in
     let many = ap length (gates-same first (unknown p) (λ ls. cell ls z)) ∙ unknown-many first p in
     (low, (k, omega (arith, r .number, many)))
 

@@ -27,7 +27,6 @@ use Rattle.frame.specs.declared.Made.{Made}
 use Rattle.frame.specs.Frame.{front, over}
 use Rattle.frame.specs.Literals.{literalsIn}
 use Rattle.frame.specs.Written.{written, Room}
-use Rattle.frame.proofs.Writing.{slotsAt, writing, wrote-done, done-wrote}
 use Rattle.literal_map.specs.declared.Operand.{Operand}
 use Rattle.literal_map.specs.Cells.{Held, IsOperand, Referred, cellIn, cellOr, cellOf}
 use Rattle.literal_map.specs.Rows.{RowMade}
@@ -49,7 +48,7 @@ pub record Walking (table : List ℕ) (rows : ℕ) (records : List Record) (map�
   pub rest : List Fields
   pub total : Counts
   pub ahead : Ahead table (ok .sheet .records) total rows r rest
-  pub walk : Walk writing (slotsAt slots₀ 2) map₀ 1 (rowsOf rows table) (slotsAt slots at) map n r (take r (ok .sheet .records)) rest
+  pub walk : Walk 2 1 (rowsOf rows table) map₀ slots₀ map slots at n r (take r (ok .sheet .records)) rest
 
 room-for : (fs all : List Fields) (l : List ℤ) {v s : ℕ} → fs ≡ all → length (gates 0 (steps fs)) ≡ v → length (slotsOf (clausesFrom 0 (gates 0 (steps fs)))) ≡ s → v < 2147483648 → s ≤ length l
     → Room 2 1 (gates 1 (stepsFrom [] all)) l
@@ -82,8 +81,7 @@ module _ {table : List ℕ} {rows : ℕ} {records : List Record} {map₀ slots�
   unfolding rowSlots
   walking-end h =
       let e = none-left (p .rest) (omega (arith, p .ahead .left)) in
-      let (d, m) = walk-end (subst (λ (fs : List Fields). Walk writing (slotsAt slots₀ 2) map₀ 1 (rowsOf rows table) (slotsAt slots at) map n r (take r (p .ok .sheet .records)) fs) e (p .walk)) in
-      let w = done-wrote (room table rows records map₀ slots₀ (p .ok)) d in
+      let (w, m) = walk-end (subst (λ (fs : List Fields). Walk 2 1 (rowsOf rows table) map₀ slots₀ map slots at n r (take r (p .ok .sheet .records)) fs) e (p .walk)) in
       (w .slots, (w .place, rw (table-map (rowsOf rows table)) m))
 
   -- what does not change
@@ -104,11 +102,11 @@ module _ {table : List ℕ} {rows : ℕ} {records : List Record} {map₀ slots�
     pub walking-row : Row table (p .ok .sheet .records) (p .total) rows r (p .rest)
     walking-row = ahead-row table (p .ok .sheet .records) (p .total) rows r (p .rest) h (p .ahead)
 
-    pub here : Walk writing (slotsAt slots₀ 2) map₀ 1 (rowsOf rows table) (slotsAt slots at) map n r before (walking-row .fields ∷ walking-row .others)
-    here = subst (λ (fs : List Fields). Walk writing (slotsAt slots₀ 2) map₀ 1 (rowsOf rows table) (slotsAt slots at) map n r before fs) (walking-row .split) (p .walk)
+    pub here : Walk 2 1 (rowsOf rows table) map₀ slots₀ map slots at n r before (walking-row .fields ∷ walking-row .others)
+    here = subst (λ (fs : List Fields). Walk 2 1 (rowsOf rows table) map₀ slots₀ map slots at n r before fs) (walking-row .split) (p .walk)
 
     few : n < 2147483648
-    few = omega (arith, room table rows records map₀ slots₀ (p .ok) .number, p .walk .left .number)
+    few = omega (arith, p .walk .left .room .number)
 
     long : length map ≡ length map₀
     long = p .walk .long
@@ -196,7 +194,7 @@ module _ {table : List ℕ} {rows : ℕ} {records : List Record} {map₀ slots�
           → Walking table rows records map₀ slots₀ map′ slots′ (m .at) (m .next) (r + 1)
       walking-next {map′} {slots′} {m} d g =
           let q = rw is-circuit at d in
-          let w = walk-next here (p .some) (walking-row .passes) (omega (arith, long, p .ok .map)) (wrote-done (walk-room here) (q .wrote)) (rw (q .literals) at g) in
+          let w = walk-next here (p .some) (walking-row .passes) (omega (arith, long, p .ok .map)) (q .wrote) (rw (q .literals) at g) in
           record {
             ok = p .ok;
             some = omega (arith, p .some, q .wrote .number);

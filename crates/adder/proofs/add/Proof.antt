@@ -13,9 +13,8 @@ use Rattle.circuit.specs.Literals.{plus, slot}
 use Rattle.frame.specs.Literals.{unslot, literalAt, IsLit, AllLit}
 use Rattle.frame.specs.Written.{written}
 use Rattle.frame.proofs.Frames.{lent}
-use Rattle.frame.proofs.Leave.{left-room}
 use Rattle.frame.proofs.Literals.{answered, held-lit, lit-held, literals-put}
-use Rattle.frame.proofs.Writing.{slotsAt, writing, part-done, done-wrote, room-of, Turn}
+use Rattle.frame.proofs.Writing.{left-room, room-of, wrote-of, Turn}
 use Rattle.frame.proofs.Loops.{Filling, filling-all, filling-turn, filling-end}
 use Rattle.adder.specs.Adding.{bitGates, adding}
 use Rattle.adder.proofs.Turns.{gates-at, out-at, gates-end, out-end}
@@ -26,7 +25,7 @@ use Rattle.adder.proofs.add.Tie as tie
 record Turns (slots₀ : List ℤ) (from low w : ℕ) (carry : ℤ) (first : ℕ) (x y slots bits : List ℤ) (at : ℕ) (c : ℤ) (n i : ℕ) : Type 0 where
   lit : IsLit c
   sound : AllLit w bits
-  filling : Filling writing (slotsAt slots₀ from) first (adding carry x y low w) x low w (slotsAt slots at) n bits i (adding c x y i w)
+  filling : Filling from first (adding carry x y low w) x low w slots₀ slots at n bits i (adding c x y i w)
 
 abbrev Inv-loop : tie.InvT-loop
 Inv-loop slots₀ from low width carry first x y bits₀ at₀ c₀ next₀ i₀ slots bits at c next i = Turns slots₀ from low width (toZ w32 carry) first x y slots bits at (toZ w32 c) next i
@@ -140,7 +139,7 @@ loop-again c =
     (record {
       lit = rw (bit .1 .1 .1 .0) at (bit .1 .1 .1 .1);
       sound = literals-put w (t .loop .bits) i (slot (plus (n + 1))) (v .sound) (omega arith) (rw (bit .1 .0) at (bit .1 .1 .0));
-      filling = filling-turn (v .filling) us (plus (n + 1)) (adding (slot (plus (n + 2))) x y (i + 1) w) h (q .long-x) turn ends (part-done (v .filling .left) us _ turn d);
+      filling = filling-turn (v .filling) us (plus (n + 1)) (adding (slot (plus (n + 2))) x y (i + 1) w) h (q .long-x) turn ends (wrote-of us d);
     })
 
 same-length : tie.Need-same-length Inv-loop μ-loop
@@ -155,7 +154,7 @@ returns c =
     let h = c .loop-test .left in
     let v = rw (toZ-ofZ (s .fits .carry)) at (t .loop .inv) in
     let e = filling-end (v .filling) h (gates-end (t .loop .i) w (s .args .t3) (s .args .t4) k (t .loop .next) h) (out-end (t .loop .i) w (s .args .t3) (s .args .t4) k (t .loop .next) h) in
-    (done-wrote (s .pre .1 .1 .1 .1 .1) (e .0), (e .1, (refl, v .sound)))
+    (e .0, (e .1, (refl, v .sound)))
 
 pub add-spec : {M : Type 1} → statement M
 add-spec =

@@ -15,9 +15,8 @@ use Rattle.circuit.specs.Numbers.{muxes}
 use Rattle.frame.specs.Literals.{unslot, literalAt, between, AllLit}
 use Rattle.frame.specs.Written.{written}
 use Rattle.frame.proofs.Frames.{lent}
-use Rattle.frame.proofs.Leave.{left-room}
 use Rattle.frame.proofs.Literals.{answered, held-lit, lit-held, literals-put}
-use Rattle.frame.proofs.Writing.{slotsAt, writing, part-done, done-wrote, room-of, Turn}
+use Rattle.frame.proofs.Writing.{left-room, room-of, wrote-of, Turn}
 use Rattle.frame.proofs.Loops.{Filling, filling-all, filling-turn, filling-end}
 use Rattle.choice.specs.Choosing.{choosing}
 use Rattle.choice.proofs.Turns.{gates-at, out-at, gates-end, out-end}
@@ -27,7 +26,7 @@ use Rattle.choice.proofs.choose.Tie as tie
 -- the places below i are chosen
 record Turns (slots₀ : List ℤ) (from w : ℕ) (c : ℤ) (first : ℕ) (x y slots bits : List ℤ) (at n i : ℕ) : Type 0 where
   sound : AllLit w bits
-  filling : Filling writing (slotsAt slots₀ from) first (choosing c x y w) x 0 w (slotsAt slots at) n bits i (muxes (unslot c) (between i w x) (between i w y))
+  filling : Filling from first (choosing c x y w) x 0 w slots₀ slots at n bits i (muxes (unslot c) (between i w x) (between i w y))
 
 abbrev Inv-loop : tie.InvT-loop
 Inv-loop slots₀ from width condition first x y bits₀ at₀ next₀ i₀ slots bits at next i = Turns slots₀ from width (toZ w32 condition) first x y slots bits at next i
@@ -140,7 +139,7 @@ loop-again c =
     rw (toZ-ofZ (s .fits .condition), answered (bit .1))
     (record {
       sound = literals-put w (t .loop .bits) i (slot (plus n)) (v .sound) (omega arith) (rw (bit .1 .0) at (bit .1 .1));
-      filling = filling-turn (v .filling) us (plus n) (muxes k (between (i + 1) w x) (between (i + 1) w y)) h (q .long-x) turn ends (part-done (v .filling .left) us _ turn d);
+      filling = filling-turn (v .filling) us (plus n) (muxes k (between (i + 1) w x) (between (i + 1) w y)) h (q .long-x) turn ends (wrote-of us d);
     })
 
 same-length : tie.Need-same-length Inv-loop μ-loop
@@ -157,7 +156,7 @@ returns c =
     let v = rw (toZ-ofZ (s .fits .condition)) at (t .loop .inv) in
     let h = c .loop-test .left in
     let e = filling-end (v .filling) h (gates-end (t .loop .i) w x y k (t .loop .next) h) (out-end (t .loop .i) w x y k (t .loop .next) h) in
-    (done-wrote (s .pre .1 .1 .1 .1) (e .0), (e .1, (refl, v .sound)))
+    (e .0, (e .1, (refl, v .sound)))
 
 pub choose-spec : {M : Type 1} → statement M
 choose-spec =

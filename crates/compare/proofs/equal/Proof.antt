@@ -13,9 +13,8 @@ use Rattle.circuit.specs.Numbers.{equalFrom}
 use Rattle.frame.specs.Literals.{unslot, literalAt, between, IsLit}
 use Rattle.frame.specs.Written.{written}
 use Rattle.frame.proofs.Frames.{lent}
-use Rattle.frame.proofs.Leave.{left-room}
 use Rattle.frame.proofs.Literals.{answered, held-lit, lit-held, slot-unslot}
-use Rattle.frame.proofs.Writing.{slotsAt, writing, part-done, done-wrote, room-of, Turn}
+use Rattle.frame.proofs.Writing.{left-room, room-of, wrote-of, Turn}
 use Rattle.frame.proofs.Loops.{Going, going-all, going-turn, going-end}
 use Rattle.compare.specs.Comparing.{matchGates, matching}
 use Rattle.compare.proofs.Turns.{equal-at, equal-out, equal-end, equal-lit}
@@ -26,7 +25,7 @@ use Rattle.compare.proofs.equal.Tie as tie
 record Turns (slots₀ : List ℤ) (from w first : ℕ) (x y slots : List ℤ) (e : ℤ) (at n i : ℕ) : Type 0 where
   within : i ≤ w
   lit : IsLit e
-  going : Going writing (slotsAt slots₀ from) first (matching x y w) (slotsAt slots at) n (equalFrom (unslot e) (between i w x) (between i w y))
+  going : Going from first (matching x y w) slots₀ slots at n (equalFrom (unslot e) (between i w x) (between i w y))
 
 abbrev Inv-loop : tie.InvT-loop
 Inv-loop slots₀ from width first x y e₀ at₀ next₀ i₀ slots e at next i = Turns slots₀ from width first x y slots (toZ w32 e) at next i
@@ -133,7 +132,7 @@ loop-again c =
     (record {
       within = omega arith;
       lit = rw (bit .1 .0) at (bit .1 .1);
-      going = going-turn (v .going) us (equalFrom (plus (n + 1)) (between (i + 1) w x) (between (i + 1) w y)) turn (equal-out i w x y n h (q .long-x) (q .long-y) k) (part-done (v .going .left) us _ turn d);
+      going = going-turn (v .going) us (equalFrom (plus (n + 1)) (between (i + 1) w x) (between (i + 1) w y)) turn (equal-out i w x y n h (q .long-x) (q .long-y) k) (wrote-of us d);
     })
 
 same-length : tie.Need-same-length Inv-loop μ-loop
@@ -150,7 +149,7 @@ returns c =
     let v = t .loop .inv in
     let h = c .loop-test .left in
     let e = going-end (v .going) (equal-end (t .loop .i) w x y (t .loop .next) h (unslot z)) (equal-lit (t .loop .i) w x y (t .loop .next) h (unslot z)) in
-    (done-wrote (s .pre .1 .1 .1) (e .0), (sym (slot-unslot z (v .lit)) ∙ ap slot (e .1), v .lit))
+    (e .0, (sym (slot-unslot z (v .lit)) ∙ ap slot (e .1), v .lit))
 
 pub equal-spec : {M : Type 1} → statement M
 equal-spec =

@@ -14,9 +14,8 @@ use Rattle.circuit.specs.Numbers.{greaterFrom}
 use Rattle.frame.specs.Literals.{unslot, literalAt, between, IsLit}
 use Rattle.frame.specs.Written.{written}
 use Rattle.frame.proofs.Frames.{lent}
-use Rattle.frame.proofs.Leave.{left-room}
 use Rattle.frame.proofs.Literals.{answered, held-lit, lit-held}
-use Rattle.frame.proofs.Writing.{slotsAt, writing, part-done, done-wrote, room-of, Turn}
+use Rattle.frame.proofs.Writing.{left-room, room-of, wrote-of, Turn}
 use Rattle.frame.proofs.Loops.{Going, going-all, going-turn, going-end}
 use Rattle.compare.specs.Comparing.{orderGates, ordering}
 use Rattle.compare.proofs.Turns.{greater-at, greater-out, greater-last, greater-lit}
@@ -27,7 +26,7 @@ use Rattle.compare.proofs.greater.Tie as tie
 record Turns (slots₀ : List ℤ) (from w first : ℕ) (x y slots : List ℤ) (g : ℤ) (at n i : ℕ) : Type 0 where
   within : i < w
   lit : IsLit g
-  going : Going writing (slotsAt slots₀ from) first (ordering x y w) (slotsAt slots at) n (greaterFrom (unslot g) (between i w x) (between i w y))
+  going : Going from first (ordering x y w) slots₀ slots at n (greaterFrom (unslot g) (between i w x) (between i w y))
 
 abbrev Inv-loop : tie.InvT-loop
 Inv-loop slots₀ from width first x y g₀ at₀ next₀ i₀ slots g at next i = Turns slots₀ from width first x y slots (toZ w32 g) at next i
@@ -157,7 +156,7 @@ loop-again c =
     (record {
       within = omega arith;
       lit = rw (bit .1 .0) at (bit .1 .1);
-      going = going-turn (v .going) us (greaterFrom (plus (n + 1)) (between (i + 1) w x) (between (i + 1) w y)) turn (greater-out i w x y n h (q .long-x) (q .long-y) j k) (part-done (v .going .left) us _ turn d);
+      going = going-turn (v .going) us (greaterFrom (plus (n + 1)) (between (i + 1) w x) (between (i + 1) w y)) turn (greater-out i w x y n h (q .long-x) (q .long-y) j k) (wrote-of us d);
     })
 
 mul-a-2 : tie.Need-mul-a-2 Inv-loop μ-loop
@@ -227,10 +226,10 @@ returns c =
     let us = orderGates n (literalAt x i) (literalAt y i) (literalAt y i) k in
     let d = lent at (written n us) (t .loop .slots) (p .put-order2 .last .0) e in
     let turn = greater-last i w x y n h (q .long-x) (q .long-y) j k in
-    let done = going-turn (v .going) us (ret (plus (n + 1))) turn (greater-lit i w x y n h (q .long-x) (q .long-y) j k) (part-done (v .going .left) us _ turn d) in
+    let done = going-turn (v .going) us (ret (plus (n + 1))) turn (greater-lit i w x y n h (q .long-x) (q .long-y) j k) (wrote-of us d) in
     let end = going-end done refl refl in
     rw (held-lit (p .put-order2 .result) (bit .1 .1))
-    (done-wrote (s .pre .1 .1 .1 .1) (end .0), (bit .1 .0 ∙ ap slot (end .1), bit .1 .1))
+    (end .0, (bit .1 .0 ∙ ap slot (end .1), bit .1 .1))
 
 pub greater-spec : {M : Type 1} → statement M
 greater-spec =

@@ -12,7 +12,7 @@ use Rattle.circuit.specs.Literals.{known, slot}
 use Rattle.circuit.specs.Numbers.{constant}
 use Rattle.frame.specs.Literals.{AllLit}
 use Rattle.frame.proofs.Literals.{answered, literals-set, take-set}
-use Rattle.literals.specs.Signed.{signed}
+use Rattle.numbers.specs.Signed.{signed}
 use Rattle.literals.proofs.Constants.{bitsLeft, constant-is, bits-step, bits-end, halved}
 use Rattle.literals.proofs.constant.Statement.{statement}
 use Rattle.literals.proofs.constant.Tie as tie

@@ -1,26 +1,8 @@
 -- `number_row::bring` meets its contract. Assumes nothing.
-use mathlib.Core.Path.{_≡_}
-use Prim.Native.Nat.{_≤_}
-use native.Mathlib.Omega.{arith}
-use lib.ListN.{length}
 use borrow.Author.Needs.{needs}
-use Rattle.number_row.proofs.Widths.{factor-most}
-use Rattle.number_row.proofs.Bringing.{fits-a, fits-b, first-room, second-room, pair-made}
+use Rattle.number_row.proofs.Bringing.{factor-most, fits-a, fits-b, first-room, second-room, pair-made}
 use Rattle.number_row.proofs.bring.Statement.{statement}
 use Rattle.number_row.proofs.bring.Tie as tie
-
--- a number's array has 48 places
-long-a : (s : tie.Start) → s .args .a .number .width ≤ length (s .args .a .number .bits)
-long-a s = let l : length (s .args .a .number .bits) ≡ 48 = search needs in omega (arith, s .pre .0 .operand .number .fits)
-
-long-b : (s : tie.Start) → s .args .b .number .width ≤ length (s .args .b .number .bits)
-long-b s = let l : length (s .args .b .number .bits) ≡ 48 = search needs in omega (arith, s .pre .1 .0 .operand .number .fits)
-
-long-x : (e : tie.After-expansion) → e .expansion .result .number .width ≤ length (e .expansion .result .number .bits)
-long-x e = let l : length (e .expansion .result .number .bits) ≡ 48 = search needs in omega (arith, e .expansion .ensures .1 .1 .fits)
-
-long-y : (e : tie.After-expansion2) → e .expansion2 .result .number .width ≤ length (e .expansion2 .result .number .bits)
-long-y e = let l : length (e .expansion2 .result .number .bits) ≡ 48 = search needs in omega (arith, e .expansion2 .ensures .1 .1 .fits)
 
 lcm-requires : tie.Need-lcm-requires
 lcm-requires c κs = search needs
@@ -63,7 +45,7 @@ returns c =
     let p = q .before .before .before .before in
     let l = p .before .before .before in
     let s = l .before in
-    pair-made (s .args .a) (s .args .b) (l .lcm .result) (l .lcm .ensures .0) (s .pre .1 .1 .1) (p .expansion .ensures) (q .expansion2 .ensures) (s .pre .0 .operand) (s .pre .1 .0 .operand) (long-a s) (long-b s) (long-x p) (long-y q)
+    pair-made (s .args .a) (s .args .b) (l .lcm .result) (l .lcm .ensures .0) (s .pre .1 .1 .1) (p .expansion .ensures) (q .expansion2 .ensures) (s .pre .0 .operand) (s .pre .1 .0 .operand)
 
 pub bring-spec : {M : Type 1} → statement M
 bring-spec =

@@ -27,7 +27,7 @@ returns c =
     let s = p .before .before in
     let a = s .args .a in
     let b = s .args .b in
-    number-made (a .record .denominator * b .record .denominator) (product (literalsIn (a .number)) (literalsIn (b .number))) (p .product .ensures .0) (p .product .ensures .1)
+    number-made (a .record .denominator * b .record .denominator) (product (literalsIn (a .number)) (literalsIn (b .number))) (p .product .ensures .0) (p .product .ensures .1 .0, p .product .ensures .1 .1 .0)
 
 pub product-spec : {M : Type 1} → statement M
 product-spec = tie.close (tie.spec product-requires same-length returns)

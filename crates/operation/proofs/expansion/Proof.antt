@@ -6,10 +6,11 @@ use native.Mathlib.Omega.{arith}
 use lib.IntN.{pos}
 use lib.ListN.{length}
 use Rattle.circuit.specs.Numbers.{product, expansion}
+use Rattle.circuit.specs.Counting.{expandedWidth}
 use Rattle.frame.specs.Literals.{literalsIn}
 use Rattle.frame.proofs.Literals.{slots-between}
 use Rattle.frame.proofs.Writing.{wrote-none}
-use Rattle.operation.proofs.Widened.{expansion-none, expansion-is, expanded-width, constant-is, constant-width}
+use Rattle.operation.proofs.Widened.{expansion-none, expansion-is, width-same, width-added, constant-is, constant-width}
 use Rattle.operation.proofs.expansion.Statement.{statement}
 use Rattle.operation.proofs.expansion.Tie as tie
 
@@ -22,7 +23,7 @@ returns c =
     let x = s .args .x in
     let n = s .pre .0 in
     rw (expansion-none (s .args .factor) (literalsIn x) (c .if1 .taken))
-    (wrote-none (s .args .from) (s .args .first) (s .args .slots .now), (sym (slots-between 0 (x .width) (x .bits) (n .all) (long s)), n))
+    (wrote-none (s .args .from) (s .args .first) (s .args .slots .now), (sym (slots-between 0 (x .width) (x .bits) (n .all) (long s)), (n, sym (width-same (x .width) (s .args .factor) (c .if1 .taken)))))
 
 constant-requires : tie.Need-constant-requires
 constant-requires c κs = search needs
@@ -35,11 +36,11 @@ module _ (k : tie.After-constant) where
   long-factor : k .constant .result .width ≤ length (k .constant .result .bits)
   long-factor = let l : length (k .constant .result .bits) ≡ 48 = search needs in omega arith
 
-  wide : start .args .x .width + k .constant .result .width ≤ 48
+  wide : start .args .x .width + k .constant .result .width ≡ expandedWidth (start .args .x .width) (start .args .factor)
   wide =
       let e = constant-width (k .constant .result) (pos (start .args .factor)) long-factor (k .constant .ensures .0) in
-      let f = expanded-width (start .args .x .width) (start .args .factor) (k .before .if1 .left) in
-      omega (arith, start .pre .1 .1 .0)
+      let f = width-added (start .args .x .width) (start .args .factor) (k .before .if1 .left) in
+      omega arith
 
   same : expansion (start .args .factor) (literalsIn (start .args .x)) ≡ product (literalsIn (start .args .x)) (literalsIn (k .constant .result))
   same =
@@ -50,7 +51,7 @@ product-requires : tie.Need-product-requires
 product-requires c κs =
     let k = c .before in
     let s = k .before .before in
-    (s .pre .0, (k .constant .ensures .1, (wide k, rw (same k) at (s .pre .1 .1 .1))))
+    (s .pre .0, (k .constant .ensures .1, (omega (arith, wide k, s .pre .1 .1 .0), rw (same k) at (s .pre .1 .1 .1))))
 
 same-length : tie.Need-same-length
 same-length c = search needs
@@ -58,7 +59,9 @@ same-length c = search needs
 returns-2 : tie.Need-returns-2
 returns-2 c =
     let p = c .before in
-    rw (same (p .before .before)) (p .product .ensures)
+    let k = p .before .before in
+    let e = p .product .ensures in
+    rw (same k) (e .0, (e .1 .0, (e .1 .1 .0, e .1 .1 .1 ∙ wide k)))
 
 pub expansion-spec : {M : Type 1} → statement M
 expansion-spec =

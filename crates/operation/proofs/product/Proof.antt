@@ -53,7 +53,7 @@ returns c =
     let s = e .before .before .before .before in
     let a = p .multiply .ensures in
     let w : (1 ≤ s .args .x .width + s .args .y .width) × (s .args .x .width + s .args .y .width ≤ 48) = (omega arith, omega arith) in
-    rw (same e) (a .0, (rw (a .1 .1 .0) (a .1 .0), number-of (p .multiply .result .number) (a .1 .1 .0) (w .0) (w .1) (a .1 .1 .1)))
+    rw (same e) (a .0, (rw (a .1 .1 .0) (a .1 .0), (number-of (p .multiply .result .number) (a .1 .1 .0) (w .0) (w .1) (a .1 .1 .1), a .1 .1 .0)))
 
 pub product-spec : {M : Type 1} → statement M
 product-spec =

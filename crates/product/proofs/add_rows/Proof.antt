@@ -11,11 +11,11 @@ use mir.Val.{toZ, ofZ}
 use Rattle.circuit.specs.Literals.{Lit}
 use Rattle.circuit.specs.Circuits.{Circuit, gates, out}
 use Rattle.circuit.specs.Numbers.{addRows}
+use Rattle.circuit.proofs.Lengths.{after}
 use Rattle.frame.specs.Literals.{literals, literalAt, between, AllLit}
 use Rattle.frame.specs.Written.{Room}
-use Rattle.frame.proofs.Leave.{after, left-room, left-none}
 use Rattle.frame.proofs.Literals.{held-lit, lit-held, take-next, literals-above, kept-below, slots-whole}
-use Rattle.frame.proofs.Writing.{slotsAt, writing, wrote-done, done-wrote}
+use Rattle.frame.proofs.Writing.{left-room, left-none}
 use Rattle.frame.proofs.Loops.{Filling, filling-all, filling-on}
 use Rattle.product.specs.Multiplying.{addingRows}
 use Rattle.product.proofs.Turns.{rowAt, rows-at, rows-out, rows-end, rows-none}
@@ -26,7 +26,7 @@ use Rattle.product.proofs.add_rows.Tie as tie
 record Turns (slots₀ : List ℤ) (from : ℕ) (x : List ℤ) (w first : ℕ) (y start slots total : List ℤ) (at n i : ℕ) : Type 0 where
   below : i < w
   sound : AllLit w total
-  filling : Filling writing (slotsAt slots₀ from) first (addingRows x y start w) start 0 w (slotsAt slots at) n total i (addRows (between (i + 1) w y) (literals (take w x)) (between i w total))
+  filling : Filling from first (addingRows x y start w) start 0 w slots₀ slots at n total i (addRows (between (i + 1) w y) (literals (take w x)) (between i w total))
 
 abbrev Inv-loop : tie.InvT-loop
 Inv-loop slots₀ from x width first y total₀ at₀ next₀ i₀ slots total at next i = Turns slots₀ from x width first y total₀ slots total at next i
@@ -130,7 +130,7 @@ loop-again c =
     record {
       below = omega arith;
       sound = p .add-row .ensures .1 .1 .1;
-      filling = filling-on (v .filling) (gates n (row t)) (literalAt l i) (others t (between (i + 1) w (r .number .bits))) below (omega arith) one (rw (above, wrote .number) (gates-turn t h)) (rw (above, wrote .number) (out-turn t h)) (wrote-done (room t h) wrote);
+      filling = filling-on (v .filling) (gates n (row t)) (literalAt l i) (others t (between (i + 1) w (r .number .bits))) below (omega arith) one (rw (above, wrote .number) (gates-turn t h)) (rw (above, wrote .number) (out-turn t h)) wrote;
     }
 
 same-length : tie.Need-same-length Inv-loop μ-loop
@@ -147,7 +147,7 @@ returns c =
     let h = c .loop-test .left in
     let e = left-none (v .filling .left) (rows-end i w xs (s .args .t4) (t .loop .total) (t .loop .next) h) in
     let o = rw (rows-none i w xs (s .args .t4) (t .loop .total) (t .loop .next) h) at (v .filling .answer) in
-    (done-wrote (s .pre .1 .1 .1 .1 .1) e, (sym (slots-whole i w (t .loop .total) (v .sound) (long t .1) (omega arith)) ∙ o, (refl, v .sound)))
+    (e, (sym (slots-whole i w (t .loop .total) (v .sound) (long t .1) (omega arith)) ∙ o, (refl, v .sound)))
 
 pub add-rows-spec : {M : Type 1} → statement M
 add-rows-spec =

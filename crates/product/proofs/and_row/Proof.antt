@@ -15,9 +15,8 @@ use Rattle.circuit.specs.Numbers.{ands}
 use Rattle.frame.specs.Literals.{unslot, literalAt, between, AllLit}
 use Rattle.frame.specs.Written.{written}
 use Rattle.frame.proofs.Frames.{lent}
-use Rattle.frame.proofs.Leave.{left-room}
 use Rattle.frame.proofs.Literals.{answered, held-lit, lit-held, literals-put}
-use Rattle.frame.proofs.Writing.{slotsAt, writing, part-done, done-wrote, room-of, Turn}
+use Rattle.frame.proofs.Writing.{left-room, room-of, wrote-of, Turn}
 use Rattle.frame.proofs.Loops.{Filling, filling-all, filling-turn, filling-end}
 use Rattle.product.specs.Multiplying.{anding}
 use Rattle.product.proofs.Turns.{ands-at, ands-out, ands-end, ands-none}
@@ -28,7 +27,7 @@ use Rattle.product.proofs.and_row.Tie as tie
 record Turns (slots₀ : List ℤ) (from : ℕ) (bit : ℤ) (low w first : ℕ) (x total slots bits : List ℤ) (at n j i : ℕ) : Type 0 where
   apart : i ≡ low + j
   sound : AllLit w bits
-  filling : Filling writing (slotsAt slots₀ from) first (anding x bit low w) total low w (slotsAt slots at) n bits i (ands (w - i) (between j w x) (unslot bit))
+  filling : Filling from first (anding x bit low w) total low w slots₀ slots at n bits i (ands (w - i) (between j w x) (unslot bit))
 
 abbrev Inv-loop : tie.InvT-loop
 Inv-loop slots₀ from bit low width first x bits₀ at₀ next₀ j₀ i₀ slots bits at next j i = Turns slots₀ from (toZ w32 bit) low width first x bits₀ slots bits at next j i
@@ -140,7 +139,7 @@ loop-again c =
     (record {
       apart = omega arith;
       sound = literals-put w (t .loop .bits) i (slot (plus n)) (v .sound) (omega arith) (rw (bit .1 .0) at (bit .1 .1));
-      filling = filling-turn (v .filling) us (plus n) (ands (w - (i + 1)) (between (j + 1) w x) k) h (q .long-y) turn ends (part-done (v .filling .left) us _ turn d);
+      filling = filling-turn (v .filling) us (plus n) (ands (w - (i + 1)) (between (j + 1) w x) k) h (q .long-y) turn ends (wrote-of us d);
     })
 
 same-length : tie.Need-same-length Inv-loop μ-loop
@@ -158,7 +157,7 @@ returns c =
     let v = rw (toZ-ofZ (s .fits .bit)) at (t .loop .inv) in
     let h = c .loop-test .left in
     let e = filling-end (v .filling) h (ands-end i j w x k (t .loop .next) h) (ands-none i j w x k (t .loop .next) h) in
-    (done-wrote (s .pre .1 .1 .1 .1 .1) (e .0), (e .1, (refl, v .sound)))
+    (e .0, (e .1, (refl, v .sound)))
 
 pub and-row-spec : {M : Type 1} → statement M
 and-row-spec =

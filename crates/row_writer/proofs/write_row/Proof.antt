@@ -1,6 +1,4 @@
 -- `row_writer::write_row` meets its contract. Assumes nothing.
-use mathlib.Core.Path.{_≡_, ap, _∙_}
-use Prim.Native.Nat.{_+_, _≤_, _<_}
 use native.Mathlib.Omega.{arith}
 use borrow.Author.Needs.{needs}
 use Rattle.row_writer.proofs.Limits.{natural-limits, integer-limits}

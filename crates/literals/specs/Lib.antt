@@ -1,2 +1,0 @@
--- What the contracts of a number's literals say. Assumes nothing.
-pub mod Signed
