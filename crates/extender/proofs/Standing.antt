@@ -31,7 +31,7 @@ pub record Stands (earlier : List Record) (values : List Value) (x : ℕ) (o : O
   pub isRecord : o .record ≡ recordAt earlier x
   pub isNumerator : o .numerator ≡ numerator (valueAt values x)
 
-bit-true : (b : Bool) → eqZ (pos (bit b)) (pos 1) ≡ b
+pub bit-true : (b : Bool) → eqZ (pos (bit b)) (pos 1) ≡ b
 bit-true true = refl
 bit-true false = refl
 
