@@ -3,12 +3,11 @@ use mathlib.Core.Path.{_≡_, refl, sym, ap, _∙_, subst}
 use mathlib.Core.Bool.{Bool, true, false}
 use mathlib.Core.List.{List, [], _∷_, _++_, map}
 use Prim.Native.Nat.{ℕ, zero, suc, _+_, _*_, _-_, _≤_, _<_}
-use native.Mathlib.Nat.{le-refl}
 use native.Mathlib.Omega.{arith}
 use native.Mathlib.Numerals.{add-one}
 use lib.IntN.{ℤ}
 use lib.ListN.{length, getD, take, drop, length-append, length-drop, length-map}
-use lib.Seq.{drop-cons, take-all, take-take}
+use lib.Seq.{drop-cons, take-take}
 use Rattle.whole.specs.Tests.{if_then_else_}
 use Rattle.circuit.specs.Literals.{Lit, plus, minus, falsity, slot}
 use Rattle.circuit.specs.Circuits.{gates}
@@ -34,10 +33,6 @@ use Rattle.assign.specs.Model.{LitOf, AllLitOf}
 use Rattle.bits.specs.Readings.{Page}
 use Rattle.unknown.specs.Unknowns.{readsUnknown, rowAt}
 use Rattle.decode.specs.Settings.{settingIn, Decodable}
-
--- the map from a place on, as the code lends it
-pub rest-all : (at : ℕ) (l : List ℤ) → take (length l - at) (drop at l) ≡ drop at l
-rest-all at l = take-all (length l - at) (drop at l) (rw length-drop (le-refl (length l - at)))
 
 -- ---- one row's setting
 module _ (table : List ℕ) (r : ℕ) (of : Record) (map : List ℤ) (model : List ℕ) where

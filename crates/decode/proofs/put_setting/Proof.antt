@@ -6,11 +6,11 @@ use Prim.Native.Nat.{_+_, _*_, _<_}
 use native.Mathlib.Omega.{arith}
 use borrow.Author.Needs.{needs}
 use lib.ListN.{length, set}
-use Rattle.frame.proofs.Frames.{over-none, over-set}
+use Rattle.frame.proofs.Frames.{rest-all, over-none, over-set}
 use Rattle.arithmetic.proofs.Words.{kept}
 use Rattle.unknown.specs.Unknowns.{readsUnknown, rowAt}
 use Rattle.unknown.proofs.Taken.{bit-none, bit-some}
-use Rattle.decode.proofs.Rows.{rest-all, setting-none, setting-some}
+use Rattle.decode.proofs.Rows.{setting-none, setting-some}
 use Rattle.decode.proofs.put_setting.Statement.{statement}
 use Rattle.decode.proofs.put_setting.Tie as tie
 
