@@ -1,23 +1,21 @@
 -- One literal more is read; what is read fits. Assumes nothing.
 use mathlib.Core.Path.{_≡_, refl, sym, _∙_}
 use mathlib.Core.Bool.{Bool, true, false, true≢false, false≢true}
-use mathlib.Core.List.{List, [], _∷_, map}
+use mathlib.Core.List.{List, [], _∷_}
 use Prim.Native.Nat.{ℕ, zero, suc, _+_, _≤_, _<_}
 use native.Mathlib.Omega.{arith}
 use native.Mathlib.Numerals.{add-one}
 use lib.IntN.{ℤ, pos, negℤ, _+ℤ_, _*ℤ_, +ℤ-idl}
 use lib.ListN.{length, getD, take, drop, length-map, length-drop}
-use lib.Seq.{drop-cons, take-at}
+use lib.Seq.{drop-cons}
 use mir.Syntax.{w64}
 use mir.Val.{SFits}
 use Rattle.whole.specs.Bits.{bit, toInt, Fits}
 use Rattle.whole.proofs.Bits.{toInt-fits}
 use Rattle.whole.proofs.Ranges.{fits-up, sum-fits, product-fits, fewest-fits}
-use Rattle.circuit.specs.Literals.{Lit, falsity, slot, litTrue}
-use Rattle.sheet.specs.Steps.{page}
+use Rattle.circuit.specs.Literals.{falsity, litTrue}
 use Rattle.sheet.specs.Calls.{assigned}
 use Rattle.frame.specs.Literals.{unslot, literals}
-use Rattle.frame.proofs.Literals.{literals-of}
 use Rattle.assign.specs.Model.{value}
 use Rattle.arithmetic.proofs.Words.{fits-word}
 use Rattle.bits.specs.Readings.{values}
@@ -77,7 +75,3 @@ unfolding value
 first-value model zero l h = absurd (omega arith)
 first-value model (suc w) [] h = absurd (omega arith)
 first-value model (suc w) (x ∷ l) h = refl
-
--- the page of a row's literals, as far as it holds them, is read as these
-pub page-read : (ls : List Lit) → literals (take (length ls) (page ls)) ≡ ls
-page-read ls = rw (take-at (map slot ls) _ (length ls) (length-map ls slot)) (literals-of ls)
