@@ -1,14 +1,15 @@
 -- The lowest bit of a number and what is above it. Assumes nothing.
 use mathlib.Core.Path.{_≡_, refl}
 use mathlib.Core.Bool.{not}
-use Prim.Native.Nat.{ℕ, zero, suc, _+_, _/_, _%_, _≤_, _<_}
+use Prim.Native.Nat.{ℕ, zero, suc, _+_, _/_, _%_, _<_}
 use native.Mathlib.Omega.{arith}
 use lib.Dec.{eqb}
 use lib.IntN.{ℤ, pos, negsuc, negℤ}
-use lib.Signed.{mag, quotZ, remZ, shrZ, mag-shr}
+use lib.Signed.{quotZ, remZ, shrZ, mag-shr}
 use mir.Syntax.{w64}
 use mir.Val.{SFits, ofZ}
 use Rattle.whole.specs.Bits.{odd, half}
+use Rattle.whole.proofs.Ranges.{mag-neg}
 
 pub shr-half : (z : ℤ) → shrZ z 2 ≡ half z
 shr-half (pos n) = refl
@@ -16,10 +17,6 @@ shr-half (negsuc n) = refl
 
 pub half-fits : (z : ℤ) → SFits w64 z → SFits w64 (half z)
 half-fits z h = record { sfits = omega (arith, h .sfits, rw (shr-half z) at (mag-shr z 2)) }
-
-mag-neg : (r : ℕ) → mag (negℤ (pos r)) ≤ r
-mag-neg zero = omega arith
-mag-neg (suc r) = omega arith
 
 pub quot-fits : (z : ℤ) → SFits w64 z → SFits w64 (quotZ z (pos 2))
 quot-fits (pos a) h = record { sfits = omega (arith, h .sfits) }

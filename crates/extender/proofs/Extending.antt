@@ -10,6 +10,7 @@ use lib.ListN.{length, getD, take, drop, length-append, length-map, List·getD-a
 use lib.Seq.{take-at}
 use Rattle.whole.specs.Tests.{eqZ}
 use Rattle.whole.specs.Bits.{bit}
+use Rattle.whole.proofs.Tests.{bit-true}
 use Rattle.sheet.specs.declared.Extended.the-variants.{Constraint, Refused}
 use Rattle.sheet.specs.Rows.{rowsOf}
 use Rattle.sheet.specs.Values.{boolean, numerator, valueAt, rowValues, Within}
@@ -31,7 +32,6 @@ use Rattle.choose.proofs.Choosing.{Surveyed}
 use Rattle.evaluate.proofs.Evaluating.{evaluable}
 use Rattle.trace.proofs.Table.{extension-traced}
 use Rattle.extender.specs.Extendable.{Extendable, modelBits}
-use Rattle.extender.proofs.Standing.{bit-true}
 
 module _ (table : List ℕ) (values : List ℤ) (model₀ : List ℕ) where
   abbrev outcome : Outcome Sheet

@@ -21,6 +21,7 @@ use Rattle.sheet.specs.Acceptance.{recordBy, planBy, Sheet, accepted, accept}
 use Rattle.sheet.specs.Steps.{Cell, cells, readAs, readEach, readRows, ofUnknowns, settings}
 use Rattle.sheet.specs.Texts.{settingLines}
 use Rattle.sheet.proofs.Accepted.{Passed, accepted-tells}
+use Rattle.sheet.proofs.Walked.{rows-at-most}
 use Rattle.sheet.proofs.Counted.{cells-many}
 use Rattle.sheet.proofs.Total.{whole-table}
 use Rattle.print.specs.Pages.{joined, pages}
@@ -72,16 +73,6 @@ module _ (s : Assignment) where
 
   -- ---- the lines
 
-  -- rows that were refused are none of the rows
-  few-rows : (n : ℕ) (bytes : List ℕ) → length (rowsOf n bytes) ≤ n
-  unfolding rowsOf
-  few-rows zero bytes = omega arith
-  few-rows (suc n) bytes = by (readRow (take 8 bytes)) (rowsOf n (drop 8 bytes)) (few-rows n (drop 8 bytes))
-    where
-      by : (reading : Reading) (rows : List Fields) → length rows ≤ n → length (andRows reading rows) ≤ suc n
-      by (Read f) rows h = omega arith
-      by (Refused m) rows h = omega arith
-
   lines-joined : (n i : ℕ) (bytes : List ℕ) (rs : List Record) (cs : List Cell) → length (rowsOf n bytes) ≡ n → AllOver (rowsOf n bytes) rs → length cs ≡ length rs
       → joined (settingPieces n i bytes (ofUnknowns (rowsOf n bytes) (readEach s rs cs))) ≡ settingLines i (rowsOf n bytes) (readEach s rs cs)
   unfolding rowsOf settingPieces joined settingLines settingLine
@@ -107,7 +98,7 @@ module _ (s : Assignment) where
       step : (reading : Reading) → readRow (take 8 bytes) ≡ reading → (rs : List Record) (cs : List Cell) → length (andRows reading rest) ≡ suc n → AllOver (andRows reading rest) rs
           → length cs ≡ length rs → Rest
           → joined (settingPieces (suc n) i bytes (ofUnknowns (andRows reading rest) (readEach s rs cs))) ≡ settingLines i (andRows reading rest) (readEach s rs cs)
-      step (Refused m) q rs cs many h l k = absurd (omega (arith, few-rows n (drop 8 bytes)))
+      step (Refused m) q rs cs many h l k = absurd (omega (arith, rows-at-most n (drop 8 bytes)))
       step (Read f) q [] cs many h l k = absurd h
       step (Read f) q (r ∷ rs) [] many h l k = absurd (omega arith)
       step (Read f) q (r ∷ rs) (c ∷ cs) many h l k =

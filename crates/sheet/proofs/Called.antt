@@ -14,8 +14,11 @@ use Rattle.sheet.specs.Acceptance.{Outcome, refused, accepted, Sheet, ac
 use Rattle.sheet.specs.Calls.{_>>=_, _>>_, refuse_at_if_, falseAt, unknownCount, choosing}
 
 module _ {A : Type 0} where
-  refused-not : {n p : ℕ} {a : A} {X : Type 0} → refused n p ≡ accepted a → X
+  pub refused-not : {n p : ℕ} {a : A} {X : Type 0} → refused n p ≡ accepted a → X
   refused-not e = let z : _≡_ {A = ℕ} 0 1 = cc in absurd (omega arith)
+
+  pub same-accepted : {a b : A} → accepted a ≡ accepted b → a ≡ b
+  same-accepted e = cc
 
 -- a call that accepts has accepted step by step
 module _ {A B : Type 0} where
@@ -32,9 +35,6 @@ module _ {B : Type 0} where
   pub not-refused : (n p : ℕ) (t : Bool) {rest : Outcome B} {b : B} → ((refuse n at p if t) >> rest) ≡ accepted b → (t ≡ false) × (rest ≡ accepted b)
   not-refused n p true e = refused-not e
   not-refused n p false e = (refl, e)
-
-  pub passes-by : (n p : ℕ) (t : Bool) (rest : Outcome B) → t ≡ false → ((refuse n at p if t) >> rest) ≡ rest
-  passes-by n p t rest e = rw e
 
 -- the first that is false is one of them exactly if not every one is true
 pub first-false : (n : ℕ) (bs : List Bool) → ltb (falseAt n bs) (n + length bs) ≡ not (every bs)

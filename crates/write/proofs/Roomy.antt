@@ -13,7 +13,7 @@ use Rattle.sheet.specs.Steps.{slotsFor, mapFor}
 use Rattle.frame.specs.Frame.{front}
 use Rattle.sheet.specs.Acceptance.{Outcome, accepted, Sheet, accept}
 use Rattle.sheet.specs.Calls.{_>>_, refuse_unless_fit_, rowCount, checking, writing, left, sheetMap, sheetSlots}
-use Rattle.sheet.proofs.Called.{bound-accepts, not-refused}
+use Rattle.sheet.proofs.Called.{same-accepted, bound-accepts, not-refused}
 use Rattle.table.specs.declared.answer.Survey.{Survey}
 use Rattle.table.specs.Surveys.{asSurvey, InBounds}
 use Rattle.table.specs.Accepted.{Accepted}
@@ -21,9 +21,6 @@ use Rattle.table.proofs.Earlier.{limits-at}
 use Rattle.table.proofs.Answers.{Numbered, bind-numbered, test-numbered, checking-numbered, left-accepted}
 use Rattle.table.proofs.Rowwise.{known, all-read}
 use Rattle.writer.specs.Writable.{Writable}
-
-same-sheet : {a b : Sheet} → accepted a ≡ accepted b → a ≡ b
-same-sheet e = cc
 
 pub record Roomy (table : List ℕ) (sheet : Sheet) (mapRoom slotRoom : ℕ) : Type 0 where
   pub is : accept table ≡ accepted sheet
@@ -50,7 +47,7 @@ module _ (table : List ℕ) (records map slots : ℕ) where
       let (a, is, f) = bound-accepts (checking table records) e in
       let (long, g) = not-refused 12 (48 * rowCount a) (ltb map (48 * rowCount a)) f in
       let (wide, h) = not-refused 13 (a .counts .slots) (ltb slots (a .counts .slots)) g in
-      subst (λ (b : Sheet). Roomy table b map slots) (same-sheet h)
+      subst (λ (b : Sheet). Roomy table b map slots) (same-accepted h)
       (record { is = checking-tells a is; map = ltb-false map (48 * rowCount a) long; slots = ltb-false slots (a .counts .slots) wide })
 
 pub writable : {table : List ℕ} {sheet : Sheet} {s : Survey} {map slots : ℕ} → Roomy table sheet map slots → s ≡ asSurvey (accepted sheet) → InBounds s → Writable table (s .rows) (s .records) map slots
