@@ -21,8 +21,8 @@ use Rattle.assign.specs.Model.{areBits, value, LitOf, SlotOf}
 pub byte-at : (model : List ℕ) (i : ℕ) → getD (assigned model) i false ≡ eqb (getD model i 0) 1
 byte-at model i = List·getD-map (λ b. eqb b 1) model i 0
 
-not-below : (n : ℕ) → ltb n 0 ≡ true → ⊥
-not-below n h = let k = ltb-true n 0 h in omega arith
+none-below : (n : ℕ) → ltb n 0 ≡ true → ⊥
+none-below n h = let k = ltb-true n 0 h in omega arith
 
 less-one : (i : ℕ) → suc i - 1 ≡ i
 less-one i = omega arith
@@ -30,7 +30,7 @@ less-one i = omega arith
 -- the byte of a negative literal, and that of another
 pub value-negative : (model : List ℕ) (x : ℤ) → ltZ x (pos 0) ≡ true → not (eqb (getD model (natAbs x - 1) 0) 1) ≡ value model x
 unfolding value
-value-negative model (pos n) h = absurd (not-below n h)
+value-negative model (pos n) h = absurd (none-below n h)
 value-negative model (negsuc i) h = rw (less-one i) (ap not (sym (byte-at model i)))
 
 pub value-positive : (model : List ℕ) (x : ℤ) → ltZ x (pos 0) ≡ false → IsLit x → eqb (getD model (natAbs x - 1) 0) 1 ≡ value model x
@@ -41,12 +41,8 @@ value-positive model (negsuc i) h l = absurd (true≢false h)
 
 -- the number that a literal's byte is found by
 pub index-negative : (x : ℤ) → ltZ x (pos 0) ≡ true → T (nonNeg (negℤ x)) × (natAbs (negℤ x) ≡ natAbs x)
-index-negative (pos n) h = absurd (not-below n h)
+index-negative (pos n) h = absurd (none-below n h)
 index-negative (negsuc i) h = (tt, refl)
-
-pub index-positive : (x : ℤ) → ltZ x (pos 0) ≡ false → T (nonNeg x)
-index-positive (pos n) h = tt
-index-positive (negsuc i) h = absurd (true≢false h)
 
 -- what a test of a slot against 0 says of it
 pub is-zero : (x : ℤ) → mag x < 2147483648 → ofZ w32 x ≡ 0 → x ≡ pos 0

@@ -16,10 +16,9 @@ use Rattle.sheet.specs.Acceptance.{Outcome, refused, accepted, Sheet, accept}
 use Rattle.sheet.specs.Calls.{_>>_, refuse_at_if_, refuse_counting_unless_, falseAt, unknownCount, choosing}
 use Rattle.promise.proofs.Counts.{counted}
 use Rattle.table.specs.declared.answer.Survey.{Survey}
-use Rattle.table.specs.Accepted.{Accepted}
 use Rattle.table.specs.Surveys.{asSurvey}
 use Rattle.table.proofs.Answers.{Numbered, bind-numbered, test-numbered, accept-numbered, was-accepted, was-refused}
-use Rattle.table.proofs.Rowwise.{all-read}
+use Rattle.table.proofs.Rowwise.{known, all-read}
 use Rattle.choose.specs.Matched.{Matched}
 
 -- one test for each value
@@ -43,9 +42,6 @@ module _ (table : List ℕ) (values : List ℤ) where
   stays e z = let (n, p, is, same) = was-refused (accept table) e z in rw is same
 
   module _ {s : Survey} (a : Surveyed (accept table) s) where
-    abbrev known : Accepted table (s .rows)
-    known = record { sheet = a .sheet; is = a .is; many = ap (λ (t : Survey). t .rows) (sym (a .same)) }
-
     unknown : s .counts .unknowns ≡ unknownCount (a .sheet)
     unknown = ap (λ (t : Survey). t .counts .unknowns) (a .same) ∙ counted table (a .sheet) (a .is) .unknown
 
@@ -55,7 +51,7 @@ module _ (table : List ℕ) (values : List ℤ) where
 
     module _ (h : length values ≡ s .counts .unknowns) where
       pub matched : Matched table (s .rows) values
-      matched = record { table-is = known; number = h ∙ unknown }
+      matched = record { records = s .records; table-is = known (a .is) (a .same); number = h ∙ unknown }
 
       abbrev tests : List Bool
       tests = eachInBits (unknowns (a .sheet .rows)) values
@@ -65,7 +61,7 @@ module _ (table : List ℕ) (values : List ℤ) where
 
       module _ {i : ℕ} (e : i ≡ falseAt 0 (eachInBits (unknowns (rowsOf (s .rows) table)) values)) where
         tested : i ≡ falseAt 0 tests
-        tested = e ∙ ap (λ (fs : List Fields). falseAt 0 (eachInBits (unknowns fs) values)) (sym (all-read known))
+        tested = e ∙ ap (λ (fs : List Fields). falseAt 0 (eachInBits (unknowns fs) values)) (sym (all-read (known (a .is) (a .same))))
 
         pub outside : i < length values → asSurvey (refused 15 i) ≡ asSurvey (choosing table values)
         unfolding choosing

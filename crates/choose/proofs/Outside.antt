@@ -7,7 +7,7 @@ use native.Mathlib.Nat.{add-zero}
 use native.Mathlib.Omega.{arith}
 use lib.IntN.{ℤ, pos}
 use lib.ListN.{length, getD, drop}
-use lib.Seq.{drop-drop, getD-drop}
+use lib.Seq.{drop-drop}
 use Rattle.whole.specs.Tests.{if_then_else_}
 use Rattle.whole.specs.Bits.{bit}
 use Rattle.circuit.specs.declared.Counts.{Counts}
@@ -17,16 +17,9 @@ use Rattle.sheet.specs.Values.{unknowns, inBits, eachInBits}
 use Rattle.sheet.specs.Calls.{falseAt}
 use Rattle.sheet.proofs.Walked.{Ahead, Row, ahead-row}
 use Rattle.promise.proofs.Choices.{first, no-bits}
-use Rattle.table.specs.Accepted.{Accepted}
+use Rattle.unknown.proofs.Taken.{bit-most, next-value}
 use Rattle.table.proofs.Rowwise.{all-read, all-ahead, none-left}
 use Rattle.choose.specs.Matched.{Matched}
-
-pub bit-most : (b : Bool) → bit b ≤ 1
-bit-most true = omega arith
-bit-most false = omega arith
-
-pub next-value : (values : List ℤ) (i : ℕ) → first (drop i values) ≡ getD values i (pos 0)
-next-value values i = getD-drop i values 0 (pos 0) ∙ ap (λ (n : ℕ). getD values n (pos 0)) (add-zero i)
 
 -- the first value outside its bits, of those from value i on
 abbrev outsideFrom : ℕ → List Fields → List ℤ → ℕ
@@ -53,24 +46,24 @@ module _ (f : Fields) (rows : List Fields) where
 
 -- r rows are looked at, and took i values
 pub record Looking (table : List ℕ) (rows : ℕ) (values : List ℤ) (i r : ℕ) : Type 0 where
-  pub ok : Accepted table rows
+  pub ok : Matched table rows values
   pub rest : List Fields
   pub total : Counts
-  pub ahead : Ahead table (ok .sheet .records) total rows r rest
+  pub ahead : Ahead table (ok .table-is .sheet .records) total rows r rest
   pub taken : i ≤ r
   pub number : length (drop i values) ≡ length (unknowns rest)
   pub same : outsideFrom i rest (drop i values) ≡ outsideFrom 0 (rowsOf rows table) values
 
 pub looking-none : {table : List ℕ} {rows : ℕ} {values : List ℤ} → Matched table rows values → Looking table rows values 0 0
 looking-none {table} {rows} {values} n =
-    let ok = n .table-is in
+    let known = n .table-is in
     record {
-      ok = ok;
+      ok = n;
       rest = rowsOf rows table;
       total = _;
-      ahead = all-ahead ok;
+      ahead = all-ahead known;
       taken = omega arith;
-      number = n .number ∙ ap (λ (fs : List Fields). length (unknowns fs)) (all-read ok);
+      number = n .number ∙ ap (λ (fs : List Fields). length (unknowns fs)) (all-read known);
       same = refl;
     }
 
@@ -82,8 +75,8 @@ module _ {table : List ℕ} {rows : ℕ} {values : List ℤ} {i r : ℕ} (p : Lo
 
   -- row r is next
   module _ (h : r < rows) where
-    pub looking-row : Row table (p .ok .sheet .records) (p .total) rows r (p .rest)
-    looking-row = ahead-row table (p .ok .sheet .records) (p .total) rows r (p .rest) h (p .ahead)
+    pub looking-row : Row table (p .ok .table-is .sheet .records) (p .total) rows r (p .rest)
+    looking-row = ahead-row table (p .ok .table-is .sheet .records) (p .total) rows r (p .rest) h (p .ahead)
 
     many : length (drop i values) ≡ length (unknowns (looking-row .fields ∷ looking-row .others))
     many = p .number ∙ ap (λ (fs : List Fields). length (unknowns fs)) (looking-row .split)

@@ -4,9 +4,11 @@ use mathlib.Core.List.{List}
 use Prim.Native.Nat.{ℕ}
 use lib.IntN.{ℤ}
 use lib.ListN.{length}
+use Rattle.sheet.specs.declared.Record.{Record}
 use Rattle.sheet.specs.Values.{unknowns}
 use Rattle.table.specs.Accepted.{Accepted}
 
 pub record Matched (table : List ℕ) (rows : ℕ) (values : List ℤ) : Type 0 where
-  pub table-is : Accepted table rows
+  pub records : List Record
+  pub table-is : Accepted table rows records
   pub number : length values ≡ length (unknowns (table-is .sheet .rows))

@@ -1,36 +1,12 @@
 // Values for the unknowns of a table: refusals 14 and 15, behind those of the table itself.
 ghost use mathlib.Core.Path.{_≡_};
-ghost use lib.IntN.{pos};
-ghost use lib.ListN.{getD};
-ghost use Rattle.whole.specs.Bits.{bit};
-ghost use Rattle.sheet.specs.Rows.{rowsOf, uses, isUnknown};
+ghost use Rattle.sheet.specs.Rows.{rowsOf};
 ghost use Rattle.sheet.specs.Values.{unknowns, eachInBits};
 ghost use Rattle.sheet.specs.Calls.{falseAt, choosing};
 ghost use Rattle.table.specs.Surveys.{asSurvey, InBounds};
 ghost use Rattle.choose.specs.Matched.{Matched};
-use sheet::Kind;
 use sheet::Reading;
 use table::answer::Survey;
-
-// How many values a row of this kind takes: 1 if it is an unknown, else 0.
-pub fn asked(kind: Kind) -> usize
-    ensures { λ n. ⌜ n ≡ bit (isUnknown (uses kind)) ⌝ }
-{
-    match kind {
-        Kind::BooleanUnknown | Kind::NaturalUnknown | Kind::IntegerUnknown => 1,
-        _ => 0,
-    }
-}
-
-// Value i, and 0 if there is none.
-pub fn value_at(values: &[i64], i: usize) -> i64
-    ensures { λ v. ⌜ v ≡ getD (now (values .entry)) i (pos 0) ⌝ }
-{
-    if i < values.len() {
-        return values[i];
-    }
-    0
-}
 
 // The first value outside its declared bits, or how many values there are: row by row, an unknown takes the next one.
 fn first_outside(table: &[u8], rows: usize, values: &[i64]) -> usize
@@ -46,11 +22,11 @@ fn first_outside(table: &[u8], rows: usize, values: &[i64]) -> usize
             return 0;
         };
         let kind = f.kind;
-        let v = value_at(values, i);
+        let v = unknown::value_at(values, i);
         if !declared::in_bits(kind, f.p, v) {
             return i;
         }
-        i += asked(kind);
+        i += unknown::asked(kind);
         r += 1;
     }
     i

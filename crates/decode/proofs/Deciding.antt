@@ -1,12 +1,11 @@
 -- What decoding knows from step to step: nothing is written at a refusal; then the table is, 19 is decided over its slots, and the settings
 -- are left to write. Assumes nothing.
-use mathlib.Core.Path.{_≡_, refl, sym, ap, _∙_}
+use mathlib.Core.Path.{_≡_, sym, ap, _∙_}
 use mathlib.Core.List.{List, _++_}
 use Prim.Native.Nat.{ℕ, _≤_, _<_}
 use native.Mathlib.Omega.{arith}
 use lib.IntN.{ℤ}
 use lib.ListN.{length, take, drop, length-append}
-use lib.Seq.{take-at}
 use Rattle.circuit.specs.Literals.{Clause}
 use Rattle.sheet.specs.Rows.{rowsOf}
 use Rattle.sheet.specs.Acceptance.{Outcome, accepted, Sheet, accept}
@@ -14,11 +13,13 @@ use Rattle.sheet.specs.Steps.{clauses, slotsFor, mapFor}
 use Rattle.sheet.specs.Calls.{decodable, decoding, left, sheetMap, sheetSlots, settingsOf}
 use Rattle.promise.proofs.Counts.{counted}
 use Rattle.table.specs.declared.answer.Survey.{Survey}
-use Rattle.table.specs.Surveys.{blank, asSurvey, InBounds}
+use Rattle.table.specs.Surveys.{asSurvey, InBounds}
 use Rattle.table.proofs.Answers.{was-accepted, was-refused, left-refused, left-accepted}
 use Rattle.frame.specs.Frame.{front}
-use Rattle.writer.specs.Accepted.{Accepted}
-use Rattle.write.proofs.Roomy.{accepted-of, map-left, slots-left}
+use Rattle.table.specs.Accepted.{Accepted}
+use Rattle.table.proofs.Rowwise.{known}
+use Rattle.writer.specs.Writable.{Writable}
+use Rattle.write.proofs.Roomy.{writable, map-left, slots-left}
 use Rattle.assign.specs.Model.{AllSlotOf}
 use Rattle.assign.specs.Clauses.{clausesIn, truths, firstFalse}
 use Rattle.decode.specs.Decoded.{asDecoded}
@@ -67,11 +68,11 @@ module _ (table : List ℕ) (records : ℕ) (map₀ slots₀ : List ℤ) (model 
       ready : Ready table sheet (length map₀) (length slots₀) model (length values₀)
       ready = decodable-tells table records (length map₀) (length slots₀) model (length values₀) sheet is
 
-      pub to-write : Accepted table (s .rows) (s .records) (length map₀) (length slots₀)
-      to-write = accepted-of sheet surveyed table (ready .roomy) bounds
+      pub to-write : Writable table (s .rows) (s .records) (length map₀) (length slots₀)
+      to-write = writable (ready .roomy) surveyed bounds
 
-      held : take (s .rows) (s .records) ≡ sheet .records
-      held = ap (λ (t : Survey). take (t .rows) (t .records)) surveyed ∙ take-at (sheet .records) (drop (length (sheet .records)) blank) (length (sheet .records)) refl
+      abbrev ok : Accepted table (s .rows) (s .records)
+      ok = known (ready .roomy .is) surveyed
 
       few : sheet .counts .variables < 2147483648
       few = omega (arith, bounds .counts .variables, ap (λ (t : Survey). t .counts .variables) surveyed)
@@ -79,10 +80,10 @@ module _ (table : List ℕ) (records : ℕ) (map₀ slots₀ : List ℤ) (model 
       -- the table is written
       module _ {map slots : List ℤ} (m : map ≡ front (mapFor (rowsOf (s .rows) table)) map₀) (l : slots ≡ front (slotsFor (rowsOf (s .rows) table)) slots₀) where
         map-is : map ≡ left could sheetMap map₀
-        map-is = map-left sheet surveyed table (ready .roomy .is) is map₀ m
+        map-is = map-left ok is map₀ m
 
         slots-are : slots ≡ left could sheetSlots slots₀
-        slots-are = slots-left sheet surveyed table (ready .roomy .is) is slots₀ l
+        slots-are = slots-left ok is slots₀ l
 
         slots-whole : slots ≡ slotsFor (sheet .rows) ++ drop (length (slotsFor (sheet .rows))) slots₀
         slots-whole = slots-are ∙ sym (left-accepted sheetSlots slots₀ is)
@@ -100,10 +101,7 @@ module _ (table : List ℕ) (records : ℕ) (map₀ slots₀ : List ℤ) (model 
 
         pub to-put : Decodable table (s .rows) (s .records) map model (length values₀)
         to-put = record {
-          sheet = sheet;
-          is = ready .roomy .is;
-          many = sym (ap (λ (t : Survey). t .rows) surveyed);
-          held = held;
+          table-is = ok;
           few = few;
           behind = drop (length (mapFor (sheet .rows))) map₀;
           written = map-is ∙ sym (left-accepted sheetMap map₀ is);

@@ -1,5 +1,5 @@
 -- The settings written row by row: what the loop knows, a row more, and the end. Assumes nothing.
-use mathlib.Core.Path.{_≡_, refl, sym, ap, _∙_}
+use mathlib.Core.Path.{_≡_, refl, sym, ap, _∙_, subst}
 use mathlib.Core.Bool.{Bool, true, false}
 use mathlib.Core.List.{List, [], _∷_, _++_}
 use Prim.Native.Nat.{ℕ, _+_, _≤_, _<_}
@@ -10,19 +10,19 @@ use Rattle.whole.specs.Tests.{if_then_else_}
 use Rattle.circuit.specs.declared.Counts.{Counts}
 use Rattle.sheet.specs.declared.Fields.{Fields}
 use Rattle.sheet.specs.declared.Record.{Record}
-use Rattle.sheet.specs.Rows.{uses, isUnknown, rowsOf}
+use Rattle.sheet.specs.Rows.{uses, isUnknown}
 use Rattle.sheet.specs.Values.{Value, numerator, unknowns}
 use Rattle.sheet.specs.Acceptance.{accept}
 use Rattle.sheet.specs.Steps.{cells, readEach, readRows, ofUnknowns, settings}
 use Rattle.sheet.specs.Calls.{assigned, left, settingsOf}
-use Rattle.sheet.proofs.Accepted.{accepted-tells}
-use Rattle.sheet.proofs.Walked.{Ahead, ahead-all, Row, ahead-row}
+use Rattle.sheet.proofs.Walked.{Ahead, Row, ahead-row}
 use Rattle.frame.specs.Frame.{front, over}
 use Rattle.frame.proofs.Frames.{length-over, over-none, over-over, over-zero}
 use Rattle.table.proofs.Earlier.{zeros}
 use Rattle.table.proofs.Answers.{left-accepted}
+use Rattle.table.proofs.Rowwise.{tells, all-read, all-ahead, all-bytes, few-rows, own-record, none-left}
 use Rattle.decode.specs.Settings.{settingIn, AtRow, Decodable}
-use Rattle.decode.proofs.Rows.{setting-some, map-long, rows-few, page-of, own-record, settingsFrom, row-more}
+use Rattle.decode.proofs.Rows.{setting-some, map-long, page-of, settingsFrom, row-more}
 
 -- no more settings than unknowns
 few-settings : (fs : List Fields) (vs : List Value) → length (ofUnknowns fs vs) ≤ length (unknowns fs)
@@ -40,43 +40,37 @@ pub record Putting (table : List ℕ) (rows : ℕ) (records : List Record) (map 
   pub ok : Decodable table rows records map model (length values₀)
   pub rest : List Fields
   pub total : Counts
-  pub ahead : Ahead table (ok .sheet .records) total rows r rest
+  pub ahead : Ahead table (ok .table-is .sheet .records) total rows r rest
   pub long : length values ≡ length values₀
   pub room : n + length (settingsFrom ok r rest) ≤ length values
-  pub left : over n (settingsFrom ok r rest) values ≡ front (settingsOf model (ok .sheet)) values₀
+  pub left : over n (settingsFrom ok r rest) values ≡ front (settingsOf model (ok .table-is .sheet)) values₀
 
 pub putting-none : (table : List ℕ) (rows : ℕ) (records : List Record) (map : List ℤ) (model : List ℕ) (values : List ℤ) → Decodable table rows records map model (length values)
     → Putting table rows records map model values values 0 0
 unfolding settings readRows
 putting-none table rows records map model values ok =
-    let a = accepted-tells table (ok .sheet) (ok .is) in
-    let fs = ok .sheet .rows in
+    let fs = ok .table-is .sheet .rows in
     record {
       ok = ok;
       rest = fs;
-      total = a .total;
-      ahead = ahead-all table (ok .sheet .records) (a .total) rows fs (ap (λ (n : ℕ). rowsOf n table) (sym (ok .many) ∙ a .many) ∙ sym (a .read)) (ok .many) (a .passed);
+      total = tells (ok .table-is) .total;
+      ahead = subst (λ (rest : List Fields). Ahead table (ok .table-is .sheet .records) (tells (ok .table-is) .total) rows 0 rest) (sym (all-read (ok .table-is))) (all-ahead (ok .table-is));
       long = refl;
-      room = omega (arith, few-settings fs (readEach (assigned model) (ok .sheet .records) (cells fs)), ok .fits);
-      left = over-zero (settingsOf model (ok .sheet)) values;
+      room = omega (arith, few-settings fs (readEach (assigned model) (ok .table-is .sheet .records) (cells fs)), ok .fits);
+      left = over-zero (settingsOf model (ok .table-is .sheet)) values;
     }
-
--- a list that is empty
-none-left : (l : List Fields) → length l ≡ 0 → l ≡ []
-none-left [] h = refl
-none-left (f ∷ l) h = absurd (omega arith)
 
 module _ {table : List ℕ} {rows : ℕ} {records : List Record} {map : List ℤ} {model : List ℕ} {values₀ values : List ℤ} {n r : ℕ} (p : Putting table rows records map model values₀ values n r) where
   pub putting-end : rows ≤ r → values ≡ left (accept table) (settingsOf model) values₀
   unfolding front
   putting-end h =
       let e = none-left (p .rest) (omega (arith, p .ahead .left)) in
-      sym (over-none n values) ∙ ap (λ (fs : List Fields). over n (settingsFrom (p .ok) r fs) values) (sym e) ∙ p .left ∙ left-accepted (settingsOf model) values₀ (p .ok .is)
+      sym (over-none n values) ∙ ap (λ (fs : List Fields). over n (settingsFrom (p .ok) r fs) values) (sym e) ∙ p .left ∙ left-accepted (settingsOf model) values₀ (p .ok .table-is .is)
 
   -- row r is next
   module _ (h : r < rows) where
-    row : Row table (p .ok .sheet .records) (p .total) rows r (p .rest)
-    row = ahead-row table (p .ok .sheet .records) (p .total) rows r (p .rest) h (p .ahead)
+    row : Row table (p .ok .table-is .sheet .records) (p .total) rows r (p .rest)
+    row = ahead-row table (p .ok .table-is .sheet .records) (p .total) rows r (p .rest) h (p .ahead)
 
     abbrev now : List ℤ
     now = settingIn table r (getD records r zeros) map model
@@ -89,10 +83,10 @@ module _ {table : List ℕ} {rows : ℕ} {records : List Record} {map : List ℤ
 
     pub putting-row : AtRow table r (getD records r zeros) map (length model) n (length values)
     putting-row = record {
-      few = omega (arith, rows-few (p .ok));
-      bytes = omega (arith, accepted-tells table (p .ok .sheet) (p .ok .is) .bytes, p .ok .many);
+      few = omega (arith, few-rows (p .ok .table-is));
+      bytes = omega (arith, all-bytes (p .ok .table-is));
       places = omega (arith, map-long (p .ok));
-      page = rw (own-record (p .ok) r h) (page-of (p .ok) r h);
+      page = rw (own-record (p .ok .table-is) r h) (page-of (p .ok) r h);
       fits = λ u. omega (arith, room-now, ap length (setting-some table r (getD records r zeros) map model u));
     }
 

@@ -3,12 +3,11 @@ use mathlib.Core.Path.{_≡_, refl, sym, ap, _∙_, subst}
 use mathlib.Core.Bool.{Bool, true, false}
 use mathlib.Core.List.{List, [], _∷_, _++_, map}
 use Prim.Native.Nat.{ℕ, zero, suc, _+_, _*_, _-_, _≤_, _<_}
-use native.Mathlib.Nat.{le-refl}
 use native.Mathlib.Omega.{arith}
 use native.Mathlib.Numerals.{add-one}
 use lib.IntN.{ℤ}
 use lib.ListN.{length, getD, take, drop, length-append, length-drop, length-map}
-use lib.Seq.{drop-cons, getD-take, take-all, take-take}
+use lib.Seq.{drop-cons, take-take}
 use Rattle.whole.specs.Tests.{if_then_else_}
 use Rattle.circuit.specs.Literals.{Lit, plus, minus, falsity, slot}
 use Rattle.circuit.specs.Circuits.{gates}
@@ -22,21 +21,18 @@ use Rattle.sheet.specs.Values.{numerator}
 use Rattle.sheet.specs.Acceptance.{missing, recordAt}
 use Rattle.sheet.specs.Steps.{Cell, cell, cellAt, page, pages, steps, cells, mapFor, readAs, readEach, ofUnknowns}
 use Rattle.sheet.specs.Calls.{assigned}
-use Rattle.sheet.proofs.Accepted.{IsAccepted, accepted-tells}
 use Rattle.sheet.proofs.Counted.{CellsFor, CellFor, cell-at, cells-many}
 use Rattle.sheet.proofs.Pages.{Narrow, page-first, pages-at, pages-long, narrow-at, narrow-cells}
 use Rattle.sheet.proofs.Total.{whole-table}
 use Rattle.promise.proofs.Counts.{counted, passed-narrow}
 use Rattle.frame.specs.Literals.{literals}
 use Rattle.frame.proofs.Literals.{literals-of}
-use Rattle.table.proofs.Earlier.{zeros, any-default}
+use Rattle.table.proofs.Earlier.{zeros}
+use Rattle.table.proofs.Rowwise.{tells, own-record}
 use Rattle.assign.specs.Model.{LitOf, AllLitOf}
 use Rattle.bits.specs.Readings.{Page}
-use Rattle.decode.specs.Settings.{readsUnknown, rowAt, settingIn, Decodable}
-
--- the map from a place on, as the code lends it
-pub rest-all : (at : ℕ) (l : List ℤ) → take (length l - at) (drop at l) ≡ drop at l
-rest-all at l = take-all (length l - at) (drop at l) (rw length-drop (le-refl (length l - at)))
+use Rattle.unknown.specs.Unknowns.{readsUnknown, rowAt}
+use Rattle.decode.specs.Settings.{settingIn, Decodable}
 
 -- ---- one row's setting
 module _ (table : List ℕ) (r : ℕ) (of : Record) (map : List ℤ) (model : List ℕ) where
@@ -73,49 +69,43 @@ places-at cs rest x w n h k =
 -- ---- an accepted table, its map, and a model
 module _ {table : List ℕ} {rows : ℕ} {records : List Record} {map₀ : List ℤ} {model : List ℕ} {room : ℕ} (ok : Decodable table rows records map₀ model room) where
   abbrev made : List Cell
-  made = cells (ok .sheet .rows)
+  made = cells (ok .table-is .sheet .rows)
 
-  told : IsAccepted table (ok .sheet)
-  told = accepted-tells table (ok .sheet) (ok .is)
+  gates-many : length (gates 0 (steps (ok .table-is .sheet .rows))) ≡ length model
+  gates-many = sym (counted table (ok .table-is .sheet) (ok .table-is .is) .variables) ∙ sym (ok .variables)
 
-  gates-many : length (gates 0 (steps (ok .sheet .rows))) ≡ length model
-  gates-many = sym (counted table (ok .sheet) (ok .is) .variables) ∙ sym (ok .variables)
-
-  fit : CellsFor (length model) (ok .sheet .records) made
-  fit = subst (λ (n : ℕ). CellsFor n (ok .sheet .records) made) gates-many (whole-table (ok .sheet) (told .total) (told .passed) .fit)
+  fit : CellsFor (length model) (ok .table-is .sheet .records) made
+  fit = subst (λ (n : ℕ). CellsFor n (ok .table-is .sheet .records) made) gates-many (whole-table (ok .table-is .sheet) (tells (ok .table-is) .total) (tells (ok .table-is) .passed) .fit)
 
   some-model : 0 < length model
   unfolding steps
   some-model = omega (arith, gates-many)
 
   narrow : Narrow made
-  narrow = narrow-cells (length model) (ok .sheet .records) made fit (passed-narrow (ok .sheet .rows) [] theFirst (ok .sheet .records) (told .total) (told .passed) tt)
+  narrow = narrow-cells (length model) (ok .table-is .sheet .records) made fit (passed-narrow (ok .table-is .sheet .rows) [] theFirst (ok .table-is .sheet .records) (tells (ok .table-is) .total) (tells (ok .table-is) .passed) tt)
 
   cells-all : length made ≡ rows
-  cells-all = cells-many (length model) (ok .sheet .records) made fit ∙ ok .many
+  cells-all = cells-many (length model) (ok .table-is .sheet .records) made fit ∙ ok .table-is .many
 
   pub map-long : 48 * rows ≤ length map₀
   unfolding mapFor
   map-long = omega (arith, ap length (ok .written), length-append (pages made) (ok .behind), pages-long made narrow, cells-all)
 
-  pub rows-few : rows ≤ 256
-  rows-few = omega (arith, told .few, ok .many)
-
   -- row r
   module _ (r : ℕ) (h : r < rows) where
-    cell-of : CellFor (length model) (recordAt (ok .sheet .records) r) (cellAt made r)
-    cell-of = cell-at (length model) some-model (ok .sheet .records) made fit r
+    cell-of : CellFor (length model) (recordAt (ok .table-is .sheet .records) r) (cellAt made r)
+    cell-of = cell-at (length model) some-model (ok .table-is .sheet .records) made fit r
 
-    places : take (recordAt (ok .sheet .records) r .width) (drop (48 * r) map₀) ≡ map slot (cellAt made r .literals)
+    places : take (recordAt (ok .table-is .sheet .records) r .width) (drop (48 * r) map₀) ≡ map slot (cellAt made r .literals)
     unfolding mapFor
     places =
-        let w = recordAt (ok .sheet .records) r .width in
+        let w = recordAt (ok .table-is .sheet .records) r .width in
         ap (λ (l : List ℤ). take w (drop (48 * r) l)) (ok .written) ∙ places-at made (ok .behind) r w narrow (omega (arith, cells-all)) (cell-of .lits .size)
 
-    reads : literals (take (recordAt (ok .sheet .records) r .width) (drop (48 * r) map₀)) ≡ cellAt made r .literals
+    reads : literals (take (recordAt (ok .table-is .sheet .records) r .width) (drop (48 * r) map₀)) ≡ cellAt made r .literals
     reads = ap literals places ∙ literals-of (cellAt made r .literals)
 
-    pub page-of : Page (length model) (recordAt (ok .sheet .records) r) (drop (48 * r) map₀)
+    pub page-of : Page (length model) (recordAt (ok .table-is .sheet .records) r) (drop (48 * r) map₀)
     page-of =
         let ls = cellAt made r .literals in
         let w : length ls ≤ 48 = narrow-at made r narrow in
@@ -130,22 +120,16 @@ module _ {table : List ℕ} {rows : ℕ} {records : List Record} {map₀ : List 
               });
         }
 
-    pub own-record : getD records r zeros ≡ recordAt (ok .sheet .records) r
-    own-record =
-        sym (getD-take rows records r zeros h)
-        ∙ ap (λ (l : List Record). getD l r zeros) (ok .held)
-        ∙ any-default (ok .sheet .records) r zeros missing (omega (arith, ok .many))
-
   -- what is left to write when r rows are done and `rest` is ahead
   abbrev pub settingsFrom : (r : ℕ) → List Fields → List ℤ
-  settingsFrom r rest = ofUnknowns rest (readEach (assigned model) (drop r (ok .sheet .records)) (drop r made))
+  settingsFrom r rest = ofUnknowns rest (readEach (assigned model) (drop r (ok .table-is .sheet .records)) (drop r made))
 
   pub row-more : (r : ℕ) → r < rows → (f : Fields) (others : List Fields) → rowAt table r ≡ Read f
       → settingsFrom r (f ∷ others) ≡ settingIn table r (getD records r zeros) map₀ model ++ settingsFrom (r + 1) others
   unfolding settingIn
   row-more r h f others e =
-      let rs = ok .sheet .records in
-      let p : drop r rs ≡ recordAt rs r ∷ drop (r + 1) rs = rw add-one (drop-cons rs r missing (omega (arith, ok .many))) in
+      let rs = ok .table-is .sheet .records in
+      let p : drop r rs ≡ recordAt rs r ∷ drop (r + 1) rs = rw add-one (drop-cons rs r missing (omega (arith, ok .table-is .many))) in
       let q : drop r made ≡ cellAt made r ∷ drop (r + 1) made = rw add-one (drop-cons made r (cell (falsity ∷ []) 1) (omega (arith, cells-all))) in
-      rw (p, q, e, own-record r h, reads r h)
+      rw (p, q, e, own-record (ok .table-is) r h, reads r h)
       (one-more (isUnknown (uses (f .kind))) (numerator (readAs (assigned model) (recordAt rs r) (cellAt made r .literals))) (ofUnknowns others (readEach (assigned model) (drop (r + 1) rs) (drop (r + 1) made))))

@@ -1,29 +1,22 @@
 -- The slots of a written table: each is 0 or a literal of one of the table's variables, and they are read back as its clauses. Assumes nothing.
 use mathlib.Core.Path.{_≡_, sym, ap, _∙_, subst}
 use mathlib.Core.List.{List, [], _∷_, _++_}
-use Prim.Native.Nat.{ℕ, _-_, _≤_, _<_}
+use Prim.Native.Nat.{ℕ, _-_, _<_}
 use native.Mathlib.Omega.{arith}
 use lib.IntN.{ℤ}
-use lib.ListN.{length, getD, take}
+use lib.ListN.{length, take}
 use lib.Seq.{take-at}
-use Rattle.circuit.specs.Literals.{Lit, falsity}
 use Rattle.circuit.specs.Circuits.{gates}
-use Rattle.circuit.proofs.Wellformed.{Names}
-use Rattle.circuit.proofs.Bounds.{bound}
 use Rattle.sheet.specs.Acceptance.{accepted, Sheet, accept}
 use Rattle.sheet.specs.Steps.{cellAt, steps, cells, clausesButLast, lastClause, clauses, slotsFor}
 use Rattle.sheet.proofs.Accepted.{accepted-tells}
-use Rattle.sheet.proofs.Counted.{cell-at}
+use Rattle.sheet.proofs.Counted.{first-named, cell-at}
 use Rattle.sheet.proofs.Total.{whole-table}
 use Rattle.promise.proofs.Counts.{counted}
 use Rattle.assign.specs.Model.{AllSlotOf}
 use Rattle.assign.specs.Clauses.{clausesIn}
 use Rattle.assign.proofs.Slots.{AllNames, names-append, gates-name, slots-name}
 use Rattle.assign.proofs.Refusal.{clauses-written}
-
-first-named : (n : ℕ) → 0 < n → (ls : List Lit) → bound ls ≤ n → Names n (getD ls 0 falsity)
-first-named n h [] b = h
-first-named n h (l ∷ ls) b = omega arith
 
 module _ (table : List ℕ) (sheet : Sheet) (is : accept table ≡ accepted sheet) where
   some-gates : 0 < length (gates 0 (steps (sheet .rows)))

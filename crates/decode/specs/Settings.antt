@@ -1,29 +1,20 @@
 -- The setting of one row, and what the loop over the rows asks: a table whose literal map is written, and a model of its variables.
 -- Assumes nothing.
 use mathlib.Core.Path.{_≡_}
-use mathlib.Core.Bool.{Bool, true, false}
+use mathlib.Core.Bool.{true}
 use mathlib.Core.List.{List, [], _∷_, _++_}
 use Prim.Native.Nat.{ℕ, _+_, _*_, _≤_, _<_}
 use lib.IntN.{ℤ}
 use lib.ListN.{length, take, drop}
 use Rattle.whole.specs.Tests.{if_then_else_}
-use Rattle.sheet.specs.declared.Reading.{Reading}
-use Rattle.sheet.specs.declared.Reading.the-variants.{Read, Refused}
 use Rattle.sheet.specs.declared.Record.{Record}
-use Rattle.sheet.specs.Rows.{uses, isUnknown, readRow}
 use Rattle.sheet.specs.Values.{numerator}
-use Rattle.sheet.specs.Acceptance.{accepted, Sheet, accept}
 use Rattle.sheet.specs.Steps.{readAs, mapFor}
 use Rattle.sheet.specs.Calls.{assigned, unknownCount}
 use Rattle.frame.specs.Literals.{literals}
+use Rattle.table.specs.Accepted.{Accepted}
+use Rattle.unknown.specs.Unknowns.{readsUnknown, rowAt}
 use Rattle.bits.specs.Readings.{Page}
-
-abbrev pub readsUnknown : Reading → Bool
-readsUnknown (Read f) = isUnknown (uses (f .kind))
-readsUnknown (Refused n) = false
-
-abbrev pub rowAt : (table : List ℕ) → (r : ℕ) → Reading
-rowAt table r = readRow (take 8 (drop (8 * r) table))
 
 -- one number if row r is an unknown, else none: what the literals of its page read as
 unfoldable pub settingIn : (table : List ℕ) (r : ℕ) → Record → List ℤ → (model : List ℕ) → List ℤ
@@ -40,12 +31,9 @@ pub record AtRow (table : List ℕ) (r : ℕ) (of : Record) (map : List ℤ) (va
 
 -- an accepted table, its records, its map; a byte for each variable, and room for each unknown
 pub record Decodable (table : List ℕ) (rows : ℕ) (records : List Record) (map : List ℤ) (model : List ℕ) (room : ℕ) : Type 0 where
-  pub sheet : Sheet
-  pub is : accept table ≡ accepted sheet
-  pub many : length (sheet .records) ≡ rows
-  pub held : take rows records ≡ sheet .records
-  pub few : sheet .counts .variables < 2147483648
+  pub table-is : Accepted table rows records
+  pub few : table-is .sheet .counts .variables < 2147483648
   pub behind : List ℤ
-  pub written : map ≡ mapFor (sheet .rows) ++ behind
-  pub variables : length model ≡ sheet .counts .variables
-  pub fits : unknownCount sheet ≤ room
+  pub written : map ≡ mapFor (table-is .sheet .rows) ++ behind
+  pub variables : length model ≡ table-is .sheet .counts .variables
+  pub fits : unknownCount (table-is .sheet) ≤ room

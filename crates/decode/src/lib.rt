@@ -1,18 +1,15 @@
 // Decoding: a model of a table's clauses back to the settings of its unknowns. Refusals 1 to 13 and 16 to 18 are decided before
 // anything is written, 19 over the slots that were written, and only then are the settings written.
 ghost use mathlib.Core.Path.{_≡_};
-ghost use Prim.Native.Nat.{_+_, _*_, _≤_, _<_};
-ghost use lib.ListN.{length, take, drop};
-ghost use Rattle.sheet.specs.Rows.{uses, isUnknown, readRow};
+ghost use Prim.Native.Nat.{_+_};
+ghost use lib.ListN.{length};
 ghost use Rattle.sheet.specs.Acceptance.{accept};
 ghost use Rattle.sheet.specs.Calls as Calls;
 ghost use Rattle.sheet.specs.Calls.{decoding, left, sheetMap, sheetSlots, settingsOf};
 ghost use Rattle.frame.specs.Frame.{over};
 ghost use Rattle.table.specs.Surveys.{asSurvey, InBounds};
 ghost use Rattle.decode.specs.Decoded.{asDecoded};
-ghost use Rattle.decode.specs.Settings.{readsUnknown, settingIn, AtRow, Decodable};
-use sheet::Kind;
-use sheet::Reading;
+ghost use Rattle.decode.specs.Settings.{settingIn, AtRow, Decodable};
 use sheet::Record;
 use table::answer::Survey;
 
@@ -46,30 +43,6 @@ pub fn decodable(
     s
 }
 
-// Kinds 01, 02 and 03 are the unknowns.
-fn unknown_kind(kind: Kind) -> bool
-    ensures { λ r. ⌜ r ≡ isUnknown (uses kind) ⌝ }
-{
-    match kind {
-        Kind::BooleanUnknown | Kind::NaturalUnknown | Kind::IntegerUnknown => true,
-        _ => false,
-    }
-}
-
-// Whether row r of a table is an unknown.
-fn unknown_row(table: &[u8], r: usize) -> bool
-    requires { ⌜ r < 256 ⌝ ∗ ⌜ 8 * r + 8 ≤ length (now table) ⌝ }
-    ensures { λ b. ⌜ b ≡ readsUnknown (readRow (take 8 (drop (8 * r) (now (table .entry))))) ⌝ }
-{
-    let start = 8 * r;
-    let end = start + 8;
-    let Reading::Read(f) = row::read_row(&table[start..end]) else {
-        return false;
-    };
-    let kind = f.kind;
-    unknown_kind(kind)
-}
-
 // The setting of row r, if it is an unknown, at place n; answers the next place. Its page in the map is behind those of r rows.
 fn put_setting(
     table: &[u8],
@@ -84,7 +57,7 @@ fn put_setting(
     ensures values { λ _. ⌜ now (values .exit) ≡ over n (settingIn (now (table .entry)) r of (now (map .entry)) (now (model .entry))) (now (values .entry)) ⌝ }
     ensures next { λ m. ⌜ m ≡ n + length (settingIn (now (table .entry)) r of (now (map .entry)) (now (model .entry))) ⌝ }
 {
-    if !unknown_row(table, r) {
+    if unknown::asked_at(table, r) == 0 {
         return n;
     }
     let at = literal_map::places(r);

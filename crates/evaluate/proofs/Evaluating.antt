@@ -4,8 +4,7 @@ use mathlib.Core.List.{List, map}
 use Prim.Native.Nat.{ℕ, _≤_, _<_}
 use borrow.Author.Tests.{lt-ltb, le-ltb}
 use lib.IntN.{ℤ}
-use lib.ListN.{length, take, drop}
-use lib.Seq.{take-at}
+use lib.ListN.{length}
 use Rattle.sheet.specs.declared.Fields.{Fields}
 use Rattle.sheet.specs.Rows.{rowsOf}
 use Rattle.sheet.specs.Values.{numerator, rowValues}
@@ -14,12 +13,12 @@ use Rattle.sheet.specs.Calls.{choosing, evaluating, left, resultsOf, done}
 use Rattle.sheet.proofs.Called.{choosing-tells}
 use Rattle.frame.specs.Frame.{front}
 use Rattle.table.specs.declared.answer.Survey.{Survey}
-use Rattle.table.specs.Surveys.{blank, asSurvey}
+use Rattle.table.specs.Surveys.{asSurvey}
 use Rattle.table.proofs.Answers.{was-refused}
 use Rattle.table.specs.Accepted.{Accepted}
 use Rattle.choose.proofs.Choosing.{Surveyed}
-use Rattle.table.proofs.Rowwise.{all-read}
-use Rattle.evaluate.specs.Chosen.{Chosen}
+use Rattle.table.proofs.Rowwise.{known, all-read}
+use Rattle.evaluate.specs.Evaluable.{Evaluable}
 
 -- an outcome's answer, and what it leaves in the results l
 abbrev pub Answered : Outcome Sheet → (values l : List ℤ) → Outcome (Unit {0}) → List ℤ → Type 0
@@ -47,26 +46,21 @@ module _ (table : List ℕ) (values l : List ℤ) where
       refuses outcome values l (s .number) (s .place) (passes-on n p is ∙ ap (λ (t : Survey). refused (t .number) (t .place)) (sym same))
 
   module _ {s : Survey} (a : Surveyed (choosing table values) s) where
-    abbrev known : Accepted table (s .rows)
-    known = record { sheet = a .sheet; is = choosing-tells table values (a .is) .0; many = ap (λ (t : Survey). t .rows) (sym (a .same)) }
+    abbrev accepted-table : Accepted table (s .rows) (s .records)
+    accepted-table = known (choosing-tells table values (a .is) .0) (a .same)
 
     pub too-short : length l < s .rows → Answered outcome values l (refused 18 (s .rows)) l
     unfolding evaluating
     too-short h =
         let o : outcome ≡ refused 18 (length (a .sheet .records)) = rw (a .is, lt-ltb (length l) (length (a .sheet .records)) (rw (a .same) at h)) in
-        refuses outcome values l 18 (s .rows) (o ∙ ap (refused 18) (known .many))
+        refuses outcome values l 18 (s .rows) (o ∙ ap (refused 18) (accepted-table .many))
 
     module _ (h : s .rows ≤ length l) where
-      pub chosen : Chosen table (s .rows) (s .records) values (length l)
-      chosen = record {
-        table-is = known;
-        held = ap (λ (t : Survey). take (t .rows) (t .records)) (a .same) ∙ take-at (a .sheet .records) (drop (length (a .sheet .records)) blank) (length (a .sheet .records)) refl;
-        within = choosing-tells table values (a .is) .1;
-        fits = h;
-      }
+      pub evaluable : Evaluable table (s .rows) (s .records) values (length l)
+      evaluable = record { table-is = accepted-table; within = choosing-tells table values (a .is) .1; fits = h }
 
       pub evaluated : {results : List ℤ} → results ≡ front (map numerator (rowValues (rowsOf (s .rows) table) values)) l → Answered outcome values l (accepted tt) results
       unfolding evaluating
       evaluated f =
           let o : outcome ≡ accepted (a .sheet) = rw (a .is, le-ltb (length l) (length (a .sheet .records)) (rw (a .same) at h)) in
-          accepts outcome values l (a .sheet) o (f ∙ ap (λ (fs : List Fields). front (map numerator (rowValues fs values)) l) (sym (all-read known)))
+          accepts outcome values l (a .sheet) o (f ∙ ap (λ (fs : List Fields). front (map numerator (rowValues fs values)) l) (sym (all-read accepted-table)))

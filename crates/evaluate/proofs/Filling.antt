@@ -23,9 +23,9 @@ use Rattle.table.proofs.Earlier.{zeros}
 use Rattle.row_value.specs.declared.Operand.{Operand}
 use Rattle.row_value.specs.Operands.{rowOver, Ready}
 use Rattle.row_value.proofs.Accepting.{OperandAt, row-ready, row-value}
-use Rattle.choose.proofs.Outside.{bit-most, next-value}
+use Rattle.unknown.proofs.Taken.{bit-most, next-value}
 use Rattle.table.proofs.Rowwise.{all-read, all-ahead, record-at, none-left}
-use Rattle.evaluate.specs.Chosen.{Chosen}
+use Rattle.evaluate.specs.Evaluable.{Evaluable}
 
 -- ---- what is written over the front
 
@@ -51,7 +51,7 @@ map-snoc (w ∷ vs) v = ap (λ (l : List ℤ). numerator w ∷ l) (map-snoc vs v
 
 -- r rows are evaluated, and took i values
 pub record Filling (table : List ℕ) (rows : ℕ) (records : List Record) (values results₀ results : List ℤ) (i r : ℕ) : Type 0 where
-  pub ok : Chosen table rows records values (length results₀)
+  pub ok : Evaluable table rows records values (length results₀)
   pub rest : List Fields
   pub total : Counts
   pub ahead : Ahead table (ok .table-is .sheet .records) total rows r rest
@@ -64,7 +64,7 @@ pub record Filling (table : List ℕ) (rows : ℕ) (records : List Record) (valu
   pub same : valuesFrom earlier rest (drop i values) ≡ rowValues (rowsOf rows table) values
   pub done : results ≡ front (map numerator earlier) results₀
 
-pub filling-none : {table : List ℕ} {rows : ℕ} {records : List Record} {values results : List ℤ} → Chosen table rows records values (length results)
+pub filling-none : {table : List ℕ} {rows : ℕ} {records : List Record} {values results : List ℤ} → Evaluable table rows records values (length results)
     → Filling table rows records values results results 0 0
 unfolding rowValues front
 filling-none {table} {rows} {values = values} ok = record {
@@ -110,7 +110,7 @@ module _ {table : List ℕ} {rows : ℕ} {records : List Record} {values results
         let e : j ≡ x = omega arith in
         record {
           isNumerator = rw (e, p .done) at n ∙ numerator-at (p .earlier) results₀ x (omega (arith, p .many));
-          isDenominator = rw e at d ∙ ap (λ (q : Record). q .denominator) (record-at (p .ok .table-is) records (p .ok .held) r x (omega arith) l);
+          isDenominator = rw e at d ∙ ap (λ (q : Record). q .denominator) (record-at (p .ok .table-is) r x (omega arith) l);
         }
 
     -- the row is ready; when it is evaluated, one row more is

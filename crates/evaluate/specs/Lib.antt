@@ -1,2 +1,2 @@
 -- What is known of a table and values that are evaluated. Assumes nothing.
-pub mod Chosen
+pub mod Evaluable

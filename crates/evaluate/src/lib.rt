@@ -6,7 +6,7 @@ ghost use Rattle.sheet.specs.Rows.{rowsOf};
 ghost use Rattle.sheet.specs.Values.{numerator, rowValues};
 ghost use Rattle.sheet.specs.Calls.{evaluating, left, resultsOf, said, done};
 ghost use Rattle.frame.specs.Frame.{front};
-ghost use Rattle.evaluate.specs.Chosen.{Chosen};
+ghost use Rattle.evaluate.specs.Evaluable.{Evaluable};
 use row_value::Operand;
 use sheet::Answer;
 use sheet::Reading;
@@ -25,7 +25,7 @@ fn operand(numerator: i64, row: Record) -> Operand
 
 // The numerators of the rows of an accepted table, row by row; an unknown takes the next of the values.
 pub fn fill(table: &[u8], rows: usize, records: [Record; 256], values: &[i64], results: &mut [i64])
-    requires { ⌜ Chosen (now table) rows records (now values) (length (now results)) ⌝ }
+    requires { ⌜ Evaluable (now table) rows records (now values) (length (now results)) ⌝ }
     ensures { λ _. ⌜ now (results .exit) ≡ front (map numerator (rowValues (rowsOf rows (now (table .entry))) (now (values .entry)))) (now (results .entry)) ⌝ }
 {
     let mut i = 0;
@@ -42,10 +42,10 @@ pub fn fill(table: &[u8], rows: usize, records: [Record; 256], values: &[i64], r
         let a = operand(results[x], records[x]);
         let b = operand(results[y], records[y]);
         let c = operand(results[z], records[z]);
-        let v = choose::value_at(values, i);
+        let v = unknown::value_at(values, i);
         let n = row_value::numerator_of_row(f, a, b, c, v);
         let kind = f.kind;
-        i += choose::asked(kind);
+        i += unknown::asked(kind);
         results[r] = n;
         r += 1;
     }

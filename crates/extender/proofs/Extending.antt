@@ -1,15 +1,16 @@
 -- What extending answers and leaves in the model, from the survey of a table with chosen values. Assumes nothing.
-use mathlib.Core.Path.{_≡_, refl, sym, ap, _∙_}
-use mathlib.Core.Bool.{Bool, true, false}
+use mathlib.Core.Path.{_≡_, sym, ap, _∙_}
+use mathlib.Core.Bool.{Bool, false}
 use mathlib.Core.List.{List, _++_, map}
 use Prim.Native.Nat.{ℕ, _-_, _≤_, _<_}
 use native.Mathlib.Omega.{arith}
 use borrow.Author.Tests.{lt-ltb, le-ltb}
 use lib.IntN.{ℤ, pos}
-use lib.ListN.{length, getD, take, drop, length-map, List·getD-append, List·getD-map}
+use lib.ListN.{length, getD, take, drop, length-append, length-map, List·getD-append, List·getD-map}
 use lib.Seq.{take-at}
 use Rattle.whole.specs.Tests.{eqZ}
 use Rattle.whole.specs.Bits.{bit}
+use Rattle.whole.proofs.Tests.{bit-true}
 use Rattle.sheet.specs.declared.Extended.the-variants.{Constraint, Refused}
 use Rattle.sheet.specs.Rows.{rowsOf}
 use Rattle.sheet.specs.Values.{boolean, numerator, valueAt, rowValues, Within}
@@ -17,25 +18,20 @@ use Rattle.sheet.specs.Acceptance.{Outcome, refused, accepted, Sheet, accept}
 use Rattle.sheet.specs.Steps.{extension}
 use Rattle.sheet.specs.Calls.{choosing, extending, modelOf, constraint}
 use Rattle.sheet.specs.Relations.{Extends}
-use Rattle.sheet.proofs.Accepted.{accepted-tells}
 use Rattle.sheet.proofs.Called.{choosing-tells}
 use Rattle.promise.proofs.Counts.{counted}
 use Rattle.promise.proofs.Promise.{demand-three}
 use Rattle.promise.proofs.Evaluated.{rows-many, last-numerator}
 use Rattle.frame.specs.Frame.{front}
 use Rattle.table.specs.declared.answer.Survey.{Survey}
-use Rattle.table.specs.Surveys.{blank, asSurvey}
-use Rattle.table.specs.Accepted as Table
+use Rattle.table.specs.Surveys.{asSurvey}
+use Rattle.table.specs.Accepted.{Accepted}
 use Rattle.table.proofs.Answers.{was-refused, left-refused, left-accepted}
-use Rattle.table.proofs.Rowwise.{all-read}
+use Rattle.table.proofs.Rowwise.{known, tells, all-read}
 use Rattle.choose.proofs.Choosing.{Surveyed}
+use Rattle.evaluate.proofs.Evaluating.{evaluable}
 use Rattle.trace.proofs.Table.{extension-traced}
-use Rattle.extender.specs.Accepted.{Accepted, modelBits}
-
--- a truth is told again from its numerator
-told-again : (b : Bool) → eqZ (pos (bit b)) (pos 1) ≡ b
-told-again true = refl
-told-again false = refl
+use Rattle.extender.specs.Extendable.{Extendable, modelBits}
 
 module _ (table : List ℕ) (values : List ℤ) (model₀ : List ℕ) where
   abbrev outcome : Outcome Sheet
@@ -73,22 +69,19 @@ module _ (table : List ℕ) (values : List ℤ) (model₀ : List ℕ) where
     abbrev within : Within (a .sheet .rows) values
     within = choosing-tells table values (a .is) .1
 
-    as-many : length (a .sheet .records) ≡ s .rows
-    as-many = ap (λ (t : Survey). t .rows) (sym (a .same))
+    abbrev ok : Accepted table (s .rows) (s .records)
+    ok = known is (a .same)
 
     rows-read : a .sheet .rows ≡ rowsOf (s .rows) table
-    rows-read = let k : Table.Accepted table (s .rows) = record { sheet = a .sheet; is = is; many = as-many } in all-read k
-
-    held : take (s .rows) (s .records) ≡ a .sheet .records
-    held = ap (λ (t : Survey). take (t .rows) (t .records)) (a .same) ∙ take-at (a .sheet .records) (drop (length (a .sheet .records)) blank) (length (a .sheet .records)) refl
+    rows-read = all-read ok
 
     -- the bits that are put are the paper's assignment
     bits-are : modelBits (s .rows) table (s .records) values ≡ extension (a .sheet .rows) values
     unfolding modelBits
-    bits-are = rw (held, ← rows-read) (sym (extension-traced table (a .sheet) is values within))
+    bits-are = rw (ok .held, ← rows-read) (sym (extension-traced table (a .sheet) is values within))
 
     pub some : 1 ≤ s .rows
-    some = omega (arith, as-many, accepted-tells table (a .sheet) is .some)
+    some = omega (arith, ok .many, tells ok .some)
 
     module _ (h : s .counts .variables ≤ length model₀) (l : List ℤ) {results : List ℤ} (e : results ≡ front (map numerator (rowValues (rowsOf (s .rows) table) values)) l) where
       as-computed : results ≡ map numerator (rowValues (a .sheet .rows) values) ++ drop (length (map numerator (rowValues (a .sheet .rows) values))) l
@@ -98,15 +91,14 @@ module _ (table : List ℕ) (values : List ℤ) (model₀ : List ℕ) where
       long : length (map numerator (rowValues (a .sheet .rows) values)) ≡ s .rows
       long =
           length-map (rowValues (a .sheet .rows) values) numerator ∙ rows-many (a .sheet .rows) values
-          ∙ sym (counted table (a .sheet) is .records) ∙ as-many
+          ∙ sym (counted table (a .sheet) is .records) ∙ ok .many
 
-      pub ready : Accepted table (s .rows) (s .records) results values (length model₀)
-      ready = record {
-        sheet = a .sheet;
-        is = is;
-        many = as-many;
-        held = held;
-        within = rw (← rows-read) within;
+      room : s .rows ≤ length results
+      room = let numerators = map numerator (rowValues (a .sheet .rows) values) in omega (arith, ap length as-computed, length-append numerators (drop (length numerators) l), long)
+
+      pub extendable : Extendable table (s .rows) (s .records) results values (length model₀)
+      extendable = record {
+        evaluable = evaluable table values results a room;
         computed = rw (← rows-read) (ap (take (s .rows)) as-computed ∙ take-at (map numerator (rowValues (a .sheet .rows) values)) _ (s .rows) long);
         room = omega (arith, h, ap (λ (t : Survey). t .counts .variables) (a .same), ap length bits-are, demand-three table (a .sheet) is values within .one .sized);
       }
@@ -116,12 +108,12 @@ module _ (table : List ℕ) (values : List ℤ) (model₀ : List ℕ) where
       unfolding front
       extended f g =
           let o = by-values (a .sheet) (a .is) (rw (a .same) at h) in
-          let n : s .rows ≡ length (a .sheet .rows) = sym as-many ∙ counted table (a .sheet) is .records in
+          let n : s .rows ≡ length (a .sheet .rows) = sym (ok .many) ∙ counted table (a .sheet) is .records in
           let vs = rowValues (a .sheet .rows) values in
           let last : getD results (s .rows - 1) (pos 0) ≡ numerator (valueAt vs (length (a .sheet .rows) - 1))
           = ap (λ (r : List ℤ). getD r (s .rows - 1) (pos 0)) as-computed ∙ List·getD-append (map numerator vs) _ (pos 0) (s .rows - 1) (omega (arith, long, some))
           ∙ List·getD-map numerator vs (s .rows - 1) (boolean false) ∙ ap (λ (i : ℕ). numerator (valueAt vs (i - 1))) n in
           record {
-            says = ap accepted (f ∙ ap (λ (z : ℤ). eqZ z (pos 1)) (last ∙ last-numerator table (a .sheet) is values within) ∙ told-again (constraint (a .sheet) values)) ∙ rw o;
+            says = ap accepted (f ∙ ap (λ (z : ℤ). eqZ z (pos 1)) (last ∙ last-numerator table (a .sheet) is values within) ∙ bit-true (constraint (a .sheet) values)) ∙ rw o;
             model = g ∙ ap (λ (bs : List Bool). front (map bit bs) model₀) bits-are ∙ left-accepted (modelOf values) model₀ o;
           }

@@ -1,16 +1,14 @@
 -- Operands that stand for the rows that a row refers to: they have the rows' values, and are ready where the row passes. Assumes nothing.
-use mathlib.Core.Path.{_≡_, refl, ap, ap₂, _∙_}
+use mathlib.Core.Path.{_≡_, ap, ap₂, _∙_}
 use mathlib.Core.Bool.{Bool, true, false, not, _||_}
 use mathlib.Core.List.{List}
-use Prim.Native.Nat.{ℕ, _+_, _/_, _≤_, _<_}
+use Prim.Native.Nat.{ℕ, _+_, _/_, _≤_}
 use native.Mathlib.Omega.{arith}
-use native.Mathlib.Nat.{le-of-dvd}
 use lib.Dec.{eqb}
 use lib.IntN.{pos}
 use Rattle.whole.specs.Tests.{if_then_else_, eqZ}
-use Rattle.whole.specs.Bits.{bit, fewest}
-use Rattle.whole.specs.Divisors.{lcm}
-use Rattle.whole.proofs.Divisors.{lcm-is, lcm-pos}
+use Rattle.whole.specs.Bits.{fewest}
+use Rattle.whole.proofs.Tests.{bit-true}
 use Rattle.whole.proofs.Ranges.{fits-up}
 use Rattle.circuit.specs.Counting.{expandedWidth}
 use Rattle.sheet.specs.declared.Kind.{Kind}
@@ -22,7 +20,7 @@ use Rattle.sheet.specs.Acceptance.{recordAt}
 use Rattle.sheet.proofs.Accepted.{sortAt, meetingAt, largerAt, planAt, Sorted}
 use Rattle.sheet.proofs.Tested.{right-sort, two-sorts}
 use Rattle.sheet.proofs.Widths.{Holds, AllHold, hold-at, number-at, pair-fits}
-use Rattle.numbers.specs.Bounds.{Denominator}
+use Rattle.numbers.proofs.Limits.{limits}
 use Rattle.number_extender.specs.declared.Operand.{Operand}
 use Rattle.number_extender.specs.Operands.{IsNumber, Meeting}
 use Rattle.row_extender.specs.Ready.{ofSort, valueOf, IsBoolean, Ready}
@@ -31,20 +29,9 @@ pub record Stands (earlier : List Record) (values : List Value) (x : ℕ) (o : O
   pub isRecord : o .record ≡ recordAt earlier x
   pub isNumerator : o .numerator ≡ numerator (valueAt values x)
 
-bit-true : (b : Bool) → eqZ (pos (bit b)) (pos 1) ≡ b
-bit-true true = refl
-bit-true false = refl
-
 value-back : (r : Record) (v : Value) (o : Operand) → Holds r v → o .record ≡ r → o .numerator ≡ numerator v → valueOf o ≡ v
 value-back r (boolean b) o h e f = ap (λ (s : ℕ). ofSort s o) (ap (λ (q : Record). q .sort) e ∙ h .0) ∙ ap boolean (ap (λ n. eqZ n (pos 1)) f ∙ bit-true b)
 value-back r (fraction n d) o h e f = ap (λ (s : ℕ). ofSort s o) (ap (λ (q : Record). q .sort) e ∙ h .sort) ∙ ap₂ fraction f (ap (λ (q : Record). q .denominator) e ∙ h .denominator)
-
--- denominators that meet within the limit are within it
-limits : (d e : ℕ) → 0 < d → 0 < e → lcm d e ≤ 4096 → Denominator d × Denominator e
-limits d e p q h =
-    let some = lcm-pos d e p q in
-    let multiple = lcm-is d e p in
-    (record { some = p; most = omega (arith, le-of-dvd some (multiple .left)) }, record { some = q; most = omega (arith, le-of-dvd some (multiple .right)) })
 
 -- expanding makes no number narrower
 wide-least : (w f : ℕ) → w ≤ expandedWidth w f

@@ -2,28 +2,28 @@
 use mathlib.Core.Path.{_≡_, refl, sym, ap, _∙_, subst}
 use mathlib.Core.Bool.{Bool, true, false}
 use mathlib.Core.List.{List, [], _∷_, _++_, map}
-use Prim.Native.Nat.{ℕ, _+_, _*_, _≤_, _<_, min}
+use Prim.Native.Nat.{ℕ, _+_, _≤_, _<_, min}
 use native.Mathlib.Omega.{arith}
-use native.Mathlib.Nat.{add-zero}
 use borrow.Author.Tests.{ltb-true, ltb-false}
 use lib.Dec.{ltb}
 use lib.IntN.{ℤ, pos}
-use lib.ListN.{length, getD, take, drop, length-append, length-map, length-take, List·getD-eq-default, List·getD-append, List·getD-map}
-use lib.Seq.{getD-take, getD-drop, drop-drop, length-take-le}
+use lib.ListN.{length, getD, take, drop, List·getD-eq-default, List·getD-append, List·getD-map}
+use lib.Seq.{getD-take, drop-drop, length-take-le}
 use Rattle.whole.specs.Tests.{if_then_else_}
 use Rattle.whole.specs.Bits.{bit}
 use Rattle.circuit.specs.declared.Counts.{Counts}
-use Rattle.circuit.specs.Counting.{theFirst}
 use Rattle.sheet.specs.declared.Fields.{Fields}
 use Rattle.sheet.specs.declared.Record.{Record}
 use Rattle.sheet.specs.Rows.{uses, isUnknown, rowsOf}
-use Rattle.sheet.specs.Values.{Value, boolean, numerator, valueAt, rowVal, valuesFrom, rowValues}
+use Rattle.sheet.specs.Values.{Value, boolean, numerator, valueAt, rowVal, valuesFrom, rowValues, Within}
 use Rattle.sheet.specs.Acceptance.{missing, recordAt}
-use Rattle.sheet.proofs.Accepted.{Passes, Passed, accepted-tells}
-use Rattle.sheet.proofs.Walked.{Ahead, ahead-all, Row, ahead-row}
+use Rattle.sheet.proofs.Accepted.{Passes}
+use Rattle.sheet.proofs.Walked.{Ahead, Row, ahead-row}
 use Rattle.sheet.proofs.Widths.{AllHold, allHold-snoc, row-fits}
 use Rattle.promise.proofs.Choices.{AllIn, within-all, newValues, values-new}
-use Rattle.table.proofs.Earlier.{zeros, any-default}
+use Rattle.unknown.proofs.Taken.{bit-most, next-value}
+use Rattle.table.proofs.Earlier.{zeros}
+use Rattle.table.proofs.Rowwise.{tells, all-read, all-ahead, record-at, none-left}
 use Rattle.frame.specs.Frame.{front}
 use Rattle.frame.proofs.Frames.{over-zero}
 use Rattle.trace.specs.Traces.{traceOf, tracesFrom, traces}
@@ -31,7 +31,7 @@ use Rattle.extend.specs.Bytes.{Room, Put}
 use Rattle.extend.proofs.Putting.{Left, left-all, left-room, left-step, left-none, put-then}
 use Rattle.number_extender.specs.declared.Operand.{Operand}
 use Rattle.row_extender.specs.Ready.{Ready, traceOver}
-use Rattle.extender.specs.Accepted.{Accepted, modelBits}
+use Rattle.extender.specs.Extendable.{Extendable, modelBits}
 use Rattle.extender.specs.Referred.{Referred}
 use Rattle.extender.proofs.Standing.{Stands, stands-value, ready-by}
 use Rattle.extender.proofs.Reading.{trace-front}
@@ -42,19 +42,19 @@ rowBits rows table records values = tracesFrom (take rows records) [] (rowsOf ro
 
 -- r rows are extended, and u values are taken
 pub record Walking (table : List ℕ) (rows : ℕ) (records : List Record) (results values : List ℤ) (model₀ model : List ℕ) (at u r : ℕ) : Type 0 where
-  pub ok : Accepted table rows records results values (length model₀)
+  pub ok : Extendable table rows records results values (length model₀)
   pub taken : u ≤ r
   pub rest : List Fields
   pub total : Counts
-  pub ahead : Ahead table (ok .sheet .records) total rows r rest
+  pub ahead : Ahead table (ok .evaluable .table-is .sheet .records) total rows r rest
   pub earlier : List Value
-  pub hold : AllHold (take r (ok .sheet .records)) earlier
+  pub hold : AllHold (take r (ok .evaluable .table-is .sheet .records)) earlier
   pub inside : AllIn rest (drop u values)
   pub same : valuesFrom earlier rest (drop u values) ≡ rowValues (rowsOf rows table) values
-  pub left : Left model₀ 1 (rowBits rows table records values) model at (tracesFrom (ok .sheet .records) earlier rest (drop u values))
+  pub left : Left model₀ 1 (rowBits rows table records values) model at (tracesFrom (ok .evaluable .table-is .sheet .records) earlier rest (drop u values))
 
 -- there is room for truth
-pub truth-room : {table : List ℕ} {rows : ℕ} {records : List Record} {results values : List ℤ} {m : List ℕ} → Accepted table rows records results values (length m) → Room 0 (true ∷ []) m
+pub truth-room : {table : List ℕ} {rows : ℕ} {records : List Record} {results values : List ℤ} {m : List ℕ} → Extendable table rows records results values (length m) → Room 0 (true ∷ []) m
 unfolding modelBits traces
 truth-room ok = record { place = omega (arith, ok .room) }
 
@@ -74,23 +74,9 @@ hold-many [] (v ∷ vs) h = absurd h
 hold-many (r ∷ rs) [] h = absurd h
 hold-many (r ∷ rs) (v ∷ vs) h = omega (arith, hold-many rs vs (h .1))
 
-pub at-most-one : (b : Bool) → bit b ≤ 1
-at-most-one true = omega arith
-at-most-one false = omega arith
-
--- a list that is empty
-none-left : (l : List Fields) → length l ≡ 0 → l ≡ []
-none-left [] h = refl
-none-left (f ∷ l) h = absurd (omega arith)
-
-module _ (table : List ℕ) (rows : ℕ) (records : List Record) (results values : List ℤ) (model₀ : List ℕ) (ok : Accepted table rows records results values (length model₀)) where
+module _ (table : List ℕ) (rows : ℕ) (records : List Record) (results values : List ℤ) (model₀ : List ℕ) (ok : Extendable table rows records results values (length model₀)) where
   abbrev all : List Fields
   all = rowsOf rows table
-
-  read : ok .sheet .rows ≡ all
-  read =
-      let a = accepted-tells table (ok .sheet) (ok .is) in
-      a .read ∙ ap (λ (n : ℕ). rowsOf n table) (sym (a .many) ∙ ok .many)
 
   room : Room 1 (rowBits rows table records values) model₀
   unfolding modelBits traces
@@ -99,36 +85,29 @@ module _ (table : List ℕ) (rows : ℕ) (records : List Record) (results values
   pub walking-none : Walking table rows records results values model₀ model₀ 1 0 0
   unfolding rowValues
   walking-none =
-      let a = accepted-tells table (ok .sheet) (ok .is) in
+      let known = ok .evaluable .table-is in
       record {
         ok = ok;
         taken = omega arith;
         rest = all;
-        total = a .total;
-        ahead = ahead-all table (ok .sheet .records) (a .total) rows all refl (ok .many) (subst (λ (fs : List Fields). Passed [] theFirst fs (ok .sheet .records) (a .total)) read (a .passed));
+        total = tells known .total;
+        ahead = all-ahead known;
         earlier = [];
         hold = tt;
-        inside = within-all all values (ok .within);
+        inside = within-all all values (subst (λ (fs : List Fields). Within fs values) (all-read known) (ok .evaluable .within));
         same = refl;
-        left = rw (sym (ok .held)) (left-all room);
+        left = rw (sym (known .held)) (left-all room);
       }
 
 module _ {table : List ℕ} {rows : ℕ} {records : List Record} {results values : List ℤ} {model₀ model : List ℕ} {at u r : ℕ} (p : Walking table rows records results values model₀ model at u r) where
   abbrev sheetRecords : List Record
-  sheetRecords = p .ok .sheet .records
+  sheetRecords = p .ok .evaluable .table-is .sheet .records
 
   -- all rows are extended
   pub walking-end : rows ≤ r → Put 1 (rowBits rows table records values) model₀ model at
   walking-end h =
       let e = none-left (p .rest) (omega (arith, p .ahead .left)) in
       left-none (p .left) (ap (λ (fs : List Fields). tracesFrom sheetRecords (p .earlier) fs (drop u values)) e)
-
-  -- what does not change
-  pub walking-bytes : length table ≡ 8 * rows
-  walking-bytes = accepted-tells table (p .ok .sheet) (p .ok .is) .bytes ∙ ap (λ (n : ℕ). 8 * n) (p .ok .many)
-
-  pub walking-few : rows ≤ 256
-  walking-few = omega (arith, accepted-tells table (p .ok .sheet) (p .ok .is) .few, p .ok .many)
 
   pub walking-long : length model ≡ length model₀
   walking-long = p .left .long
@@ -139,7 +118,7 @@ module _ {table : List ℕ} {rows : ℕ} {records : List Record} {results values
     before = take r sheetRecords
 
     before-long : length before ≡ r
-    before-long = length-take-le r sheetRecords (omega (arith, p .ok .many))
+    before-long = length-take-le r sheetRecords (omega (arith, p .ok .evaluable .table-is .many))
 
     many : length (p .earlier) ≡ r
     many = hold-many before (p .earlier) (p .hold) ∙ before-long
@@ -147,23 +126,10 @@ module _ {table : List ℕ} {rows : ℕ} {records : List Record} {results values
     pub walking-row : Row table sheetRecords (p .total) rows r (p .rest)
     walking-row = ahead-row table sheetRecords (p .total) rows r (p .rest) h (p .ahead)
 
-    -- the record and the numerator that are read of an earlier row
-    read-record : (x : ℕ) → x < r → getD records x zeros ≡ recordAt before x
-    read-record x k =
-        let e : getD records x zeros ≡ getD sheetRecords x zeros = sym (getD-take rows records x zeros (omega arith)) ∙ ap (λ (l : List Record). getD l x zeros) (p .ok .held) in
-        e ∙ any-default sheetRecords x zeros missing (omega (arith, p .ok .many)) ∙ sym (getD-take r sheetRecords x missing k)
-
     numbers : take rows results ≡ map numerator (p .earlier ++ newValues (p .earlier) (p .rest) (drop u values))
     numbers = p .ok .computed ∙ ap (map numerator) (sym (p .same) ∙ values-new (p .rest) (p .earlier) (drop u values))
 
-    -- there is a numerator for every row
-    pub walking-results : r < length results
-    walking-results =
-        let new = newValues (p .earlier) (walking-row .fields ∷ walking-row .others) (drop u values) in
-        let e : take rows results ≡ map numerator (p .earlier ++ new) = numbers ∙ ap (λ (fs : List Fields). map numerator (p .earlier ++ newValues (p .earlier) fs (drop u values))) (walking-row .split) in
-        let l : length (take rows results) ≡ length (p .earlier) + length new = ap length e ∙ length-map (p .earlier ++ new) numerator ∙ length-append (p .earlier) new in
-        omega (arith, l, length-take rows results, many)
-
+    -- the numerator that is read of an earlier row
     read-number : (x : ℕ) → x < r → getD results x (pos 0) ≡ numerator (valueAt (p .earlier) x)
     read-number x k =
         let new = newValues (p .earlier) (p .rest) (drop u values) in
@@ -178,7 +144,7 @@ module _ {table : List ℕ} {rows : ℕ} {records : List Record} {results values
         by true k e f =
             let l = ltb-true x r k in
             let same : i ≡ x = omega arith in
-            record { isRecord = e ∙ ap (λ (y : ℕ). getD records y zeros) same ∙ read-record x l; isNumerator = f ∙ m ∙ ap (λ (y : ℕ). getD results y (pos 0)) same ∙ read-number x l }
+            record { isRecord = e ∙ ap (λ (y : ℕ). getD records y zeros) same ∙ record-at (p .ok .evaluable .table-is) r x (omega arith) l; isNumerator = f ∙ m ∙ ap (λ (y : ℕ). getD results y (pos 0)) same ∙ read-number x l }
         by false k e f =
             let l = ltb-false x r k in
             record {
@@ -189,9 +155,6 @@ module _ {table : List ℕ} {rows : ℕ} {records : List Record} {results values
     -- the value that the row takes
     abbrev value : ℤ
     value = getD (drop u values) 0 (pos 0)
-
-    value-is : getD values u (pos 0) ≡ value
-    value-is = ap (λ (i : ℕ). getD values i (pos 0)) (sym (add-zero u)) ∙ sym (getD-drop u values 0 (pos 0))
 
     -- the row is ready, there is room for it, and when it is put one row more is
     module _ {f : Fields} (e : walking-row .fields ≡ f) {a b c : Operand} (sa : Stands before (p .earlier) (f .x) a) (sb : Stands before (p .earlier) (f .y) b) (sc : Stands before (p .earlier) (f .z) c) where
@@ -218,7 +181,7 @@ module _ {table : List ℕ} {rows : ℕ} {records : List Record} {results values
       parts = rw is-trace (ap (λ (fs : List Fields). tracesFrom sheetRecords (p .earlier) fs (drop u values)) split)
 
       pub walking-place : Room at (traceOver f a b c (getD values u (pos 0))) model
-      walking-place = rw value-is (left-room (p .left) (traceOver f a b c value) after parts)
+      walking-place = rw (← next-value values u) (left-room (p .left) (traceOver f a b c value) after parts)
 
       pub walking-next : {model′ : List ℕ} {next taken : ℕ} → taken ≡ bit (isUnknown (uses (f .kind))) → Put at (traceOver f a b c (getD values u (pos 0))) model model′ next
           → Walking table rows records results values model₀ model′ next (u + taken) (r + 1)
@@ -229,7 +192,7 @@ module _ {table : List ℕ} {rows : ℕ} {records : List Record} {results values
           let d : drop (u + taken) values ≡ drop (bit (isUnknown (uses (f .kind)))) (drop u values) = sym (drop-drop taken u values) ∙ ap (λ (n : ℕ). drop n (drop u values)) t in
           record {
             ok = p .ok;
-            taken = omega (arith, p .taken, t, at-most-one (isUnknown (uses (f .kind))));
+            taken = omega (arith, p .taken, t, bit-most (isUnknown (uses (f .kind))));
             rest = walking-row .others;
             total = p .total;
             ahead = walking-row .then;
@@ -237,5 +200,5 @@ module _ {table : List ℕ} {rows : ℕ} {records : List Record} {results values
             hold = rw (walking-row .front) (allHold-snoc before (p .earlier) (recordAt sheetRecords r) v (p .hold) (row-fits before (p .earlier) (p .hold) (walking-row .at) f (recordAt sheetRecords r) (walking-row .counts) passes value (inside .0)));
             inside = rw d (inside .1);
             same = rw d same;
-            left = rw d (left-step (p .left) (traceOver f a b c value) after parts (rw value-is at put));
+            left = rw d (left-step (p .left) (traceOver f a b c value) after parts (rw (← next-value values u) at put));
           }

@@ -1,3 +1,3 @@
 -- A table whose rows are extended. Assumes nothing.
-pub mod Accepted
+pub mod Extendable
 pub mod Referred

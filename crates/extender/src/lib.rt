@@ -8,7 +8,7 @@ ghost use Rattle.whole.specs.Tests.{eqZ};
 ghost use Rattle.whole.specs.Bits.{bit};
 ghost use Rattle.sheet.specs.Relations.{Extends};
 ghost use Rattle.frame.specs.Frame.{front};
-ghost use Rattle.extender.specs.Accepted.{Accepted, modelBits};
+ghost use Rattle.extender.specs.Extendable.{Extendable, modelBits};
 ghost use Rattle.extender.specs.Referred.{Referred};
 use number_extender::Operand;
 use sheet::Extended;
@@ -41,7 +41,7 @@ pub fn extend_rows(
     values: &[i64],
     model: &mut [u8],
 )
-    requires { ⌜ Accepted (now table) rows records (now results) (now values) (length (now model)) ⌝ }
+    requires { ⌜ Extendable (now table) rows records (now results) (now values) (length (now model)) ⌝ }
     ensures { λ _. ⌜ now (model .exit) ≡ front (map bit (modelBits rows (now (table .entry)) records (now (values .entry)))) (now (model .entry)) ⌝ }
 {
     let mut at = extend::put(model, 0, true);
@@ -59,9 +59,9 @@ pub fn extend_rows(
         let a = refer(r, f.x, records[x], results[x]);
         let b = refer(r, f.y, records[y], results[y]);
         let c = refer(r, f.z, records[z], results[z]);
-        at = row_extender::extend_row(model, at, f, a, b, c, choose::value_at(values, u));
+        at = row_extender::extend_row(model, at, f, a, b, c, unknown::value_at(values, u));
         let kind = f.kind;
-        u += choose::asked(kind);
+        u += unknown::asked(kind);
         r += 1;
     }
 }

@@ -3,20 +3,15 @@ use mathlib.Core.Path.{_≡_, refl, sym, ap, _∙_}
 use mathlib.Core.Bool.{Bool, true, false, _&&_, false≢true, and-comm, and-assoc, and-false, and-eq-true-iff}
 use mathlib.Core.List.{List, [], _∷_, _++_}
 use Prim.Native.Nat.{ℕ, zero, suc, _+_, _*_, _-_, _%_, _≤_, _<_}
-use native.Mathlib.Nat.{le-refl}
 use native.Mathlib.Numerals.{add-one}
 use native.Mathlib.Omega.{arith}
 use borrow.Author.Tests.{ltb-true, lt-ltb}
 use lib.Dec.{ltb, eqb}
-use lib.ListN.{length, getD, take, drop, length-drop, drop-of-length-le}
-use lib.Seq.{drop-cons, drop-drop, getD-drop, take-all}
+use lib.ListN.{length, getD, drop, drop-of-length-le}
+use lib.Seq.{drop-cons, drop-drop, getD-drop}
 use Rattle.whole.specs.Tests.{if_then_else_}
 use Rattle.sheet.specs.Acceptance.{refused}
 use Rattle.sheet.specs.Texts.{nibble, beginsLine, bytesIn, tableIn, lines, linesFrom}
-
--- the part from a place on
-pub rest-all : (at : ℕ) (t : List ℕ) → take (length t - at) (drop at t) ≡ drop at t
-rest-all at t = take-all (length t - at) (drop at t) (rw length-drop (le-refl (length t - at)))
 
 -- ---- two nibbles are below 16 if the larger is
 

@@ -1,6 +1,5 @@
 -- A page, piece by piece; and the pages one after the other are the text. Assumes nothing.
 use mathlib.Core.Path.{_≡_, refl, sym, ap, _∙_}
-use mathlib.Core.Bool.{Bool, true, false}
 use mathlib.Core.List.{List, [], _∷_, _++_, append-assoc}
 use Prim.Native.Nat.{ℕ, zero, suc, _+_, _-_, _≤_, _<_}
 use native.Mathlib.Nat.{add-zero, sub-zero}
@@ -8,10 +7,8 @@ use native.Mathlib.Numerals.{add-one}
 use native.Mathlib.Omega.{arith}
 use native.Mathlib.Decide.{decLt}
 use borrow.Author.Tests.{lt-ltb, le-ltb}
-use lib.Dec.{ltb}
-use lib.ListN.{length, getD, take, drop, length-append, length-drop, take-append-drop, drop-of-length-le}
+use lib.ListN.{length, getD, take, drop, length-append, take-append-drop, drop-of-length-le}
 use lib.Seq.{drop-cons, drop-drop}
-use Rattle.whole.specs.Tests.{if_then_else_}
 use Rattle.frame.specs.Frame.{front, over}
 use Rattle.frame.proofs.Frames.{over-zero, over-none, over-over}
 use Rattle.print.specs.declared.Page.{Page}
@@ -114,19 +111,6 @@ page-then from pieces room =
 -- a page takes a piece, where there is one
 pub page-goes-on : (from : ℕ) (pieces : List (List ℕ)) (room : ℕ) → from < length pieces → 64 ≤ room → from < pageFrom from pieces room .next
 page-goes-on from pieces room h k = rw (fitting-more pieces from room h k) (omega arith)
-
-fitting-few : (pieces : List (List ℕ)) (room : ℕ) → fitting pieces room ≤ length pieces
-unfolding fitting
-fitting-few [] room = omega arith
-fitting-few (piece ∷ pieces) room = by (ltb room 64) (fitting pieces (room - length piece)) (fitting-few pieces (room - length piece))
-  where
-    by : (b : Bool) (n : ℕ) → n ≤ length pieces → (if b then 0 else suc n) ≤ suc (length pieces)
-    by true n h = omega arith
-    by false n h = omega arith
-
--- the next page begins with a piece, or there is none left
-pub page-within : (from : ℕ) (pieces : List (List ℕ)) (room : ℕ) → from ≤ length pieces → pageFrom from pieces room .next ≤ length pieces
-page-within from pieces room h = omega (arith, fitting-few (drop from pieces) room, length-drop from pieces)
 
 -- so many pages as there are pieces are enough
 pub all-pages : (k from : ℕ) (pieces : List (List ℕ)) (room : ℕ) → 64 ≤ room → length pieces ≤ from + k → pages k from pieces room ≡ joined (drop from pieces)

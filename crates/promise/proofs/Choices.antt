@@ -9,7 +9,7 @@ use lib.Seq.{length-take-le}
 use lib.IntN.{ℤ, pos}
 use Rattle.whole.specs.Tests.{if_then_else_, eqZ}
 use Rattle.whole.specs.Bits.{bit, toInt}
-use Rattle.whole.proofs.Tests.{eqZ-iff}
+use Rattle.whole.proofs.Tests.{eqZ-iff, bit-true}
 use Rattle.whole.proofs.Bits.{toInt-below, fits-below, bitsOf-length, bitsOf-toInt, val, val-lt, bitsOf-val}
 use Rattle.sheet.specs.declared.Kind.{Kind}
 use Rattle.sheet.specs.declared.Kind.the-variants.{BooleanConstant, BooleanUnknown, NaturalUnknown, IntegerUnknown, NumberConstant, Not, And, Or, Implies, Iff, Sum, Difference, Product, Choice, Greater, Equal}
@@ -37,11 +37,6 @@ AllIn (f ∷ rows) vs = (inBits (uses (f .kind)) (f .p) (first vs) ≡ true) × 
 -- as many values as unknowns
 abbrev pub Enough : List Fields → List ℤ → Type 0
 Enough rows vs = length vs ≡ length (unknowns rows)
-
--- how the values go on after a row that asks for one, or for none
-enough-next : (b : Bool) (f : Fields) (fs : List Fields) (vs : List ℤ) → length vs ≡ length (if b then f ∷ fs else fs) → length (drop (bit b) vs) ≡ length fs
-enough-next true f fs vs e = length-drop 1 vs ∙ omega arith
-enough-next false f fs vs e = e
 
 -- a row that asks for none has no bits to leave
 pub no-bits : (u : Uses) (p : ℕ) (v : ℤ) → isUnknown u ≡ false → inBits u p v ≡ true
@@ -114,10 +109,6 @@ readAll (f ∷ rows) l =
     let rest = readAll rows (drop (bitsAsked (uses (f .kind)) (f .p)) l) in
     if isUnknown (uses (f .kind)) then readBits (uses (f .kind)) (f .p) l ∷ rest else rest
 
-is-one : (b : Bool) → eqZ (pos (bit b)) (pos 1) ≡ b
-is-one true = refl
-is-one false = refl
-
 is-bit : (b : Bool) → (eqZ (pos (bit b)) (pos 0) || eqZ (pos (bit b)) (pos 1)) ≡ true
 is-bit true = refl
 is-bit false = refl
@@ -127,7 +118,7 @@ read-row : (u : Uses) (p x z : ℕ) (l : List Bool) → outOfRange u p x z ≡ f
     → (inBits u p (readBits u p l) ≡ true) × (bitsBy u p (readBits u p l) ≡ take (bitsAsked u p) l)
 read-row aFlag p x z l o h e = absurd (false≢true e)
 read-row aBoolean p x z [] o h e = absurd (omega arith)
-read-row aBoolean p x z (b ∷ l) o h e = (is-bit b, ap (λ (c : Bool). c ∷ []) (is-one b))
+read-row aBoolean p x z (b ∷ l) o h e = (is-bit b, ap (λ (c : Bool). c ∷ []) (bit-true b))
 read-row aNatural p x z l o h e =
     let k : length (take p l) ≡ p = length-take-le p l h in
     (in-natural p (val (take p l)) (rw k at (val-lt (take p l))), rw k at (bitsOf-val (take p l)))

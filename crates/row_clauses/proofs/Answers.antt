@@ -5,16 +5,17 @@ use Prim.Native.Nat.{ℕ, _+_, _≤_, _<_}
 use native.Mathlib.Omega.{arith}
 use borrow.Author.Tests.{lt-ltb, le-ltb, le-leb, lt-leb}
 use lib.IntN.{ℤ}
-use lib.ListN.{length, getD, take, drop, List·getD-append}
+use lib.ListN.{length, getD, take, drop}
 use Rattle.sheet.specs.declared.Record.{Record}
-use Rattle.sheet.specs.Acceptance.{Outcome, refused, accepted, missing, recordAt, Sheet, accept}
+use Rattle.sheet.specs.Acceptance.{Outcome, refused, accepted, recordAt, Sheet, accept}
 use Rattle.sheet.specs.Calls.{rowClauses, part}
 use Rattle.sheet.specs.Relations.{GivesRow}
 use Rattle.promise.proofs.Counts.{counted}
 use Rattle.promise.proofs.Parts.{part-inside}
 use Rattle.table.specs.declared.answer.Survey.{Survey}
-use Rattle.table.specs.Surveys.{blank, asSurvey}
-use Rattle.table.proofs.Earlier.{zeros, any-default}
+use Rattle.table.specs.Surveys.{asSurvey}
+use Rattle.table.proofs.Earlier.{zeros}
+use Rattle.table.proofs.Rowwise.{known, own-record}
 use Rattle.table.proofs.Answers.{accept-numbered, was-accepted, was-refused}
 use Rattle.row_clauses.specs.declared.Found.{Found}
 use Rattle.row_clauses.specs.Finding.{asFound}
@@ -73,8 +74,7 @@ module _ (table : List ℕ) (room row : ℕ) {s : Survey} (e : s ≡ asSurvey (a
           let (sheet, is, f) = was-accepted (accept table) e (accept-numbered table) z in
           let k : row < length (sheet .records) = rw f at h in
           let l : sheet .counts .slots ≤ room = rw f at long in
-          let own : getD (s .records) row zeros ≡ recordAt (sheet .records) row
-          = ap (λ (t : Survey). getD (t .records) row zeros) f ∙ List·getD-append (sheet .records) (drop (length (sheet .records)) blank) zeros row k ∙ any-default (sheet .records) row zeros missing k in
+          let own : getD (s .records) row zeros ≡ recordAt (sheet .records) row = own-record (known is f) row h in
           (ap there own ∙ by-record table room row sheet is l k, omega (arith, ap (λ (r : Record). r .first) own, ap (λ (r : Record). r .slots) own, inside table room row sheet is l k))
 
 -- the part, and the two numbers

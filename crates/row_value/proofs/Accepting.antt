@@ -1,18 +1,16 @@
 -- Rows that were accepted: a row's operands meet what its numerator asks, and at them its value is the paper's. Assumes nothing.
 use mathlib.Core.Path.{_≡_, refl, sym, _∙_, ap, ap₂, subst₂}
-use mathlib.Core.Bool.{Bool, true, false, not, _||_}
+use mathlib.Core.Bool.{Bool, false, not, _||_}
 use mathlib.Core.List.{List, [], _∷_}
 use Prim.Native.Nat.{ℕ, _≤_, _<_}
 use native.Mathlib.Omega.{arith}
-use native.Mathlib.Nat.{le-of-dvd}
 use borrow.Author.Tests.{leb-false}
 use lib.Dec.{eqb, leb}
 use lib.IntN.{ℤ, pos}
 use lib.ListN.{length}
 use Rattle.whole.specs.Tests.{eqZ}
-use Rattle.whole.specs.Bits.{Fits, bit}
-use Rattle.whole.specs.Divisors.{lcm}
-use Rattle.whole.proofs.Divisors.{lcm-is, lcm-pos}
+use Rattle.whole.specs.Bits.{Fits}
+use Rattle.whole.proofs.Tests.{bit-true}
 use Rattle.whole.proofs.Ranges.{fits-up, product-fits}
 use Rattle.circuit.specs.declared.Counts.{Counts}
 use Rattle.sheet.specs.declared.Kind.{Kind}
@@ -26,7 +24,7 @@ use Rattle.sheet.specs.Acceptance.{sortsIn, someNotEarlier, recordAt}
 use Rattle.sheet.proofs.Accepted.{sortAt, meetingAt, largerAt, planAt, Sorted, Passes}
 use Rattle.sheet.proofs.Tested.{neither, right-sort, two-sorts}
 use Rattle.sheet.proofs.Widths.{Holds, AllHold, hold-at, number-at, pair-fits}
-use Rattle.numbers.specs.Bounds.{Denominator}
+use Rattle.numbers.proofs.Limits.{limits}
 use Rattle.row_value.specs.declared.Operand.{Operand}
 use Rattle.row_value.specs.Operands.{isTrue, number, valueOver, rowOver, Meeting, Ready}
 
@@ -36,10 +34,6 @@ pub record OperandAt (earlier : List Record) (values : List Value) (x : ℕ) (o 
   pub isDenominator : o .denominator ≡ recordAt earlier x .denominator
 
 -- a value of a known sort, from its numerator and its record's denominator
-bit-true : (b : Bool) → eqZ (pos (bit b)) (pos 1) ≡ b
-bit-true true = refl
-bit-true false = refl
-
 truth-back : (r : Record) (v : Value) {n : ℤ} → Holds r v → r .sort ≡ 0 → n ≡ numerator v → boolean (eqZ n (pos 1)) ≡ v
 truth-back r (boolean b) h s e = ap boolean (ap (λ n. eqZ n (pos 1)) e ∙ bit-true b)
 truth-back r (fraction n d) h s e = absurd (omega (arith, h .sort))
@@ -47,13 +41,6 @@ truth-back r (fraction n d) h s e = absurd (omega (arith, h .sort))
 number-back : (r : Record) (v : Value) {n : ℤ} {d : ℕ} → Holds r v → r .sort ≡ 1 → n ≡ numerator v → d ≡ r .denominator → fraction n d ≡ v
 number-back r (boolean b) h s e f = absurd (omega arith)
 number-back r (fraction n d) h s e f = ap₂ fraction e (f ∙ h .denominator)
-
--- denominators that meet within the limit are within it
-limits : (d e : ℕ) → 0 < d → 0 < e → lcm d e ≤ 4096 → Denominator d × Denominator e
-limits d e p q h =
-    let some = lcm-pos d e p q in
-    let multiple = lcm-is d e p in
-    (record { some = p; most = omega (arith, le-of-dvd some (multiple .left)) }, record { some = q; most = omega (arith, le-of-dvd some (multiple .right)) })
 
 -- the references of a row that are earlier
 first-named : (rows x : ℕ) (rest : Bool) → (leb rows x || rest) ≡ false → (x < rows) × (rest ≡ false)

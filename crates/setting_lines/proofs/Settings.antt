@@ -4,60 +4,37 @@ use mathlib.Core.Bool.{Bool, true, false, false≢true}
 use mathlib.Core.List.{List, [], _∷_, _++_, append-assoc, append-nil}
 use Prim.Native.Nat.{ℕ, zero, suc, _+_, _/_, _≤_}
 use native.Mathlib.Omega.{arith}
-use lib.IntN.{pos}
-use lib.ListN.{length, getD, take, drop}
-use Rattle.whole.specs.Tests.{if_then_else_}
+use lib.IntN.{ℤ}
+use lib.ListN.{length, take, drop}
 use Rattle.circuit.specs.declared.Counts.{Counts}
 use Rattle.circuit.specs.Literals.{Lit, Assignment}
 use Rattle.circuit.specs.Counting.{_⊕_}
 use Rattle.sheet.specs.declared.Kind.{Kind}
 use Rattle.sheet.specs.declared.Kind.the-variants.{BooleanConstant, BooleanUnknown, NaturalUnknown, IntegerUnknown, NumberConstant, Not, And, Or, Implies, Iff, Sum, Difference, Product, Choice, Greater, Equal}
-use Rattle.sheet.specs.declared.Named.{Named}
-use Rattle.sheet.specs.declared.Named.the-variants.{Is, Unknown}
 use Rattle.sheet.specs.declared.Fields.{Fields}
 use Rattle.sheet.specs.declared.Reading.{Reading}
 use Rattle.sheet.specs.declared.Reading.the-variants.{Read, Refused}
 use Rattle.sheet.specs.declared.Record.{Record}
-use Rattle.sheet.specs.Rows.{kindOf, uses, unused, allZero, isUnknown, fields, named, readRow, andRows, rowsOf}
-use Rattle.sheet.specs.Values.{Value, numerator, denominator}
+use Rattle.sheet.specs.Rows.{uses, isUnknown, readRow, andRows, rowsOf}
+use Rattle.sheet.specs.Values.{Value, numerator, denominator, rowVal}
 use Rattle.sheet.specs.Acceptance.{recordBy, planBy, Sheet, accepted, accept}
 use Rattle.sheet.specs.Steps.{Cell, cells, readAs, readEach, readRows, ofUnknowns, settings}
 use Rattle.sheet.specs.Texts.{settingLines}
 use Rattle.sheet.proofs.Accepted.{Passed, accepted-tells}
-use Rattle.sheet.proofs.Counted.{CellsFor}
+use Rattle.sheet.proofs.Walked.{rows-at-most}
+use Rattle.sheet.proofs.Counted.{cells-many}
 use Rattle.sheet.proofs.Total.{whole-table}
 use Rattle.print.specs.Pages.{joined, pages}
-use Rattle.setting_lines.specs.Settings.{settingLine, denominatorOf, unknownRow, declaredBy, settingPieces, tablePieces}
+use Rattle.setting_lines.specs.Settings.{settingLine, settingPieces, tablePieces}
 use Rattle.print.proofs.Pages.{all-pages}
-use Rattle.setting_lines.proofs.Rows.{pieces-many, piece-unknown, piece-none}
-
--- ---- a row's bytes and its fields
-
--- what the bytes of a row that is read say of its fields
-record Says (row : List ℕ) (f : Fields) : Type 0 where
-  unknown : unknownRow row ≡ isUnknown (uses (f .kind))
-  declared : declaredBy row ≡ denominatorOf (uses (f .kind)) (f .z)
-
-read-says : (row : List ℕ) (f : Fields) → readRow row ≡ Read f → Says row f
-unfolding readRow unknownRow declaredBy
-read-says row f e = by (kindOf (getD row 0 0)) refl e
-  where
-    told : (k : Kind) (b : Bool) → kindOf (getD row 0 0) ≡ Is k → (if b then Read (fields row k) else Refused 4) ≡ Read f → Says row f
-    told k false n e = let z : _≡_ {A = ℕ} 0 1 = cc in absurd (omega arith)
-    told k true n e =
-        let g : f ≡ fields row k = cc in
-        rw g (record { unknown = rw n; declared = rw n })
-
-    by : (n : Named) → kindOf (getD row 0 0) ≡ n → named row n ≡ Read f → Says row f
-    by Unknown n e = let z : _≡_ {A = ℕ} 0 1 = cc in absurd (omega arith)
-    by (Is k) n e = told k (allZero (unused (uses k) (fields row k .p) (fields row k .x) (fields row k .y) (fields row k .z))) n e
+use Rattle.setting_lines.proofs.Rows.{pieces-many}
 
 -- ---- the records of rows that pass
 
 module _ (s : Assignment) where
   -- however a row's literals read, an unknown's value is over the denominator that the row declares
   abbrev Over : Fields → Record → Type 0
-  Over f r = isUnknown (uses (f .kind)) ≡ true → (ls : List Lit) → denominator (readAs s r ls) ≡ denominatorOf (uses (f .kind)) (f .z)
+  Over f r = isUnknown (uses (f .kind)) ≡ true → (ls : List Lit) → (v : ℤ) → denominator (readAs s r ls) ≡ denominator (rowVal [] f v)
 
   abbrev AllOver : List Fields → List Record → Type 0
   AllOver [] [] = Unit {0}
@@ -65,24 +42,25 @@ module _ (s : Assignment) where
   AllOver (f ∷ rows) [] = ⊥
   AllOver (f ∷ rows) (r ∷ rs) = Over f r × AllOver rows rs
 
-  plan-over : (k : Kind) (p x y z first : ℕ) (a b c : Record) → isUnknown (uses k) ≡ true → (ls : List Lit)
-      → denominator (readAs s (recordBy first (planBy k p x y z a b c)) ls) ≡ denominatorOf (uses k) z
-  plan-over BooleanUnknown p x y z first a b c u ls = refl
-  plan-over NaturalUnknown p x y z first a b c u ls = refl
-  plan-over IntegerUnknown p x y z first a b c u ls = refl
-  plan-over BooleanConstant p x y z first a b c u ls = absurd (false≢true u)
-  plan-over NumberConstant p x y z first a b c u ls = absurd (false≢true u)
-  plan-over Not p x y z first a b c u ls = absurd (false≢true u)
-  plan-over And p x y z first a b c u ls = absurd (false≢true u)
-  plan-over Or p x y z first a b c u ls = absurd (false≢true u)
-  plan-over Implies p x y z first a b c u ls = absurd (false≢true u)
-  plan-over Iff p x y z first a b c u ls = absurd (false≢true u)
-  plan-over Sum p x y z first a b c u ls = absurd (false≢true u)
-  plan-over Difference p x y z first a b c u ls = absurd (false≢true u)
-  plan-over Product p x y z first a b c u ls = absurd (false≢true u)
-  plan-over Choice p x y z first a b c u ls = absurd (false≢true u)
-  plan-over Greater p x y z first a b c u ls = absurd (false≢true u)
-  plan-over Equal p x y z first a b c u ls = absurd (false≢true u)
+  plan-over : (k : Kind) (p x y z first : ℕ) (a b c : Record) → isUnknown (uses k) ≡ true → (ls : List Lit) (v : ℤ)
+      → denominator (readAs s (recordBy first (planBy k p x y z a b c)) ls) ≡ denominator (rowVal [] (record { kind = k; p = p; x = x; y = y; z = z }) v)
+  unfolding rowVal
+  plan-over BooleanUnknown p x y z first a b c u ls v = refl
+  plan-over NaturalUnknown p x y z first a b c u ls v = refl
+  plan-over IntegerUnknown p x y z first a b c u ls v = refl
+  plan-over BooleanConstant p x y z first a b c u ls v = absurd (false≢true u)
+  plan-over NumberConstant p x y z first a b c u ls v = absurd (false≢true u)
+  plan-over Not p x y z first a b c u ls v = absurd (false≢true u)
+  plan-over And p x y z first a b c u ls v = absurd (false≢true u)
+  plan-over Or p x y z first a b c u ls v = absurd (false≢true u)
+  plan-over Implies p x y z first a b c u ls v = absurd (false≢true u)
+  plan-over Iff p x y z first a b c u ls v = absurd (false≢true u)
+  plan-over Sum p x y z first a b c u ls v = absurd (false≢true u)
+  plan-over Difference p x y z first a b c u ls v = absurd (false≢true u)
+  plan-over Product p x y z first a b c u ls v = absurd (false≢true u)
+  plan-over Choice p x y z first a b c u ls v = absurd (false≢true u)
+  plan-over Greater p x y z first a b c u ls v = absurd (false≢true u)
+  plan-over Equal p x y z first a b c u ls v = absurd (false≢true u)
 
   passed-over : (rows : List Fields) (earlier : List Record) (so : Counts) (records : List Record) (total : Counts) → Passed earlier so rows records total
       → (new : List Record) × (records ≡ earlier ++ new) × AllOver rows new
@@ -90,20 +68,10 @@ module _ (s : Assignment) where
   passed-over (f ∷ rows) earlier so records total p =
       let r = p .0 in
       let (new, e, h) = passed-over rows (earlier ++ r ∷ []) (so ⊕ p .1) records total (p .3) in
-      let here : Over f r = rw (p .2 .isRecord) (λ u ls. plan-over (f .kind) (f .p) (f .x) (f .y) (f .z) (so .slots) _ _ _ u ls) in
+      let here : Over f r = rw (p .2 .isRecord) (λ u ls v. plan-over (f .kind) (f .p) (f .x) (f .y) (f .z) (so .slots) _ _ _ u ls v) in
       (r ∷ new, e ∙ append-assoc earlier (r ∷ []) new, (here, h))
 
   -- ---- the lines
-
-  -- rows that were refused are none of the rows
-  few-rows : (n : ℕ) (bytes : List ℕ) → length (rowsOf n bytes) ≤ n
-  unfolding rowsOf
-  few-rows zero bytes = omega arith
-  few-rows (suc n) bytes = by (readRow (take 8 bytes)) (rowsOf n (drop 8 bytes)) (few-rows n (drop 8 bytes))
-    where
-      by : (reading : Reading) (rows : List Fields) → length rows ≤ n → length (andRows reading rows) ≤ suc n
-      by (Read f) rows h = omega arith
-      by (Refused m) rows h = omega arith
 
   lines-joined : (n i : ℕ) (bytes : List ℕ) (rs : List Record) (cs : List Cell) → length (rowsOf n bytes) ≡ n → AllOver (rowsOf n bytes) rs → length cs ≡ length rs
       → joined (settingPieces n i bytes (ofUnknowns (rowsOf n bytes) (readEach s rs cs))) ≡ settingLines i (rowsOf n bytes) (readEach s rs cs)
@@ -113,9 +81,6 @@ module _ (s : Assignment) where
   lines-joined (suc n) i bytes rs cs many h l =
       step (readRow (take 8 bytes)) refl rs cs many h l (λ rs′ cs′. lines-joined n (i + 1) (drop 8 bytes) rs′ cs′)
     where
-      row : List ℕ
-      row = take 8 bytes
-
       rest : List Fields
       rest = rowsOf n (drop 8 bytes)
 
@@ -123,34 +88,23 @@ module _ (s : Assignment) where
       Rest = (rs : List Record) (cs : List Cell) → length rest ≡ n → AllOver rest rs → length cs ≡ length rs
           → joined (settingPieces n (i + 1) (drop 8 bytes) (ofUnknowns rest (readEach s rs cs))) ≡ settingLines (i + 1) rest (readEach s rs cs)
 
-      one : (b : Bool) (f : Fields) (v : Value) (vs : List Value) → isUnknown (uses (f .kind)) ≡ b → Says row f
-          → (isUnknown (uses (f .kind)) ≡ true → denominator v ≡ denominatorOf (uses (f .kind)) (f .z))
+      one : (b : Bool) (f : Fields) (v : Value) (vs : List Value) → isUnknown (uses (f .kind)) ≡ b → readRow (take 8 bytes) ≡ Read f
+          → (isUnknown (uses (f .kind)) ≡ true → denominator v ≡ denominator (rowVal [] f (numerator v)))
           → joined (settingPieces n (i + 1) (drop 8 bytes) (ofUnknowns rest vs)) ≡ settingLines (i + 1) rest vs
           → joined (settingPieces (suc n) i bytes (ofUnknowns (f ∷ rest) (v ∷ vs))) ≡ settingLines i (f ∷ rest) (v ∷ vs)
-      one true f v vs u says o e =
-          let known : unknownRow row ≡ true = says .unknown ∙ u in
-          let same : declaredBy row ≡ denominator v = says .declared ∙ sym (o u) in
-          rw (u, known, piece-unknown i row (numerator v) known, same) (ap (λ (t : List ℕ). settingLine i (numerator v) (denominator v) ++ t) e)
-      one false f v vs u says o e =
-          let none : unknownRow row ≡ false = says .unknown ∙ u in
-          rw (u, none, piece-none i row (getD (ofUnknowns rest vs) 0 (pos 0)) none) e
+      one true f v vs u q o e = rw (q, u, ← o u) (ap (λ (t : List ℕ). settingLine i (numerator v) (denominator v) ++ t) e)
+      one false f v vs u q o e = rw (q, u) e
 
-      step : (reading : Reading) → readRow row ≡ reading → (rs : List Record) (cs : List Cell) → length (andRows reading rest) ≡ suc n → AllOver (andRows reading rest) rs
+      step : (reading : Reading) → readRow (take 8 bytes) ≡ reading → (rs : List Record) (cs : List Cell) → length (andRows reading rest) ≡ suc n → AllOver (andRows reading rest) rs
           → length cs ≡ length rs → Rest
           → joined (settingPieces (suc n) i bytes (ofUnknowns (andRows reading rest) (readEach s rs cs))) ≡ settingLines i (andRows reading rest) (readEach s rs cs)
-      step (Refused m) q rs cs many h l k = absurd (omega (arith, few-rows n (drop 8 bytes)))
+      step (Refused m) q rs cs many h l k = absurd (omega (arith, rows-at-most n (drop 8 bytes)))
       step (Read f) q [] cs many h l k = absurd h
       step (Read f) q (r ∷ rs) [] many h l k = absurd (omega arith)
       step (Read f) q (r ∷ rs) (c ∷ cs) many h l k =
-          one (isUnknown (uses (f .kind))) f (readAs s r (c .literals)) (readEach s rs cs) refl (read-says row f q) (λ u. h .0 u (c .literals)) (k rs cs (omega arith) (h .1) (omega arith))
+          one (isUnknown (uses (f .kind))) f (readAs s r (c .literals)) (readEach s rs cs) refl q (λ u. h .0 u (c .literals) (numerator (readAs s r (c .literals)))) (k rs cs (omega arith) (h .1) (omega arith))
 
 -- ---- a whole table
-
-cells-many : (n : ℕ) (rs : List Record) (cs : List Cell) → CellsFor n rs cs → length cs ≡ length rs
-cells-many n [] [] h = refl
-cells-many n [] (c ∷ cs) h = absurd h
-cells-many n (r ∷ rs) [] h = absurd h
-cells-many n (r ∷ rs) (c ∷ cs) h = ap suc (cells-many n rs cs (h .1))
 
 over-many : (s : Assignment) (rows : List Fields) (rs : List Record) → AllOver s rows rs → length rows ≡ length rs
 over-many s [] [] h = refl

@@ -20,7 +20,7 @@ use Rattle.sheet.specs.declared.Record.{Record}
 use Rattle.sheet.specs.Rows.{uses}
 use Rattle.sheet.specs.Acceptance.{outside, outOfRange, meeting, bringing, planBy, recordAt, accepted, Sheet, accept}
 use Rattle.sheet.proofs.Accepted.{Passes, Passed, passed-many, accepted-tells}
-use Rattle.sheet.proofs.Tested.{neither}
+use Rattle.sheet.proofs.Tested.{neither, at-most}
 use Rattle.sheet.proofs.Called.{same-accepted, bound-accepts, not-refused}
 use Rattle.settings_text.specs.Replies.{Taken}
 
@@ -46,9 +46,6 @@ expansion-slim w f = by (eqb f 1)
 
 bringing-slim : (a b : Record) → Slim (bringing a b)
 bringing-slim a b = record { slim = omega (arith, expansion-slim (a .width) (meeting a b / a .denominator) .slim, expansion-slim (b .width) (meeting a b / b .denominator) .slim) }
-
-at-most : (least most n : ℕ) → outside least most n ≡ false → n ≤ most
-at-most least most n e = ltb-false most n (neither (ltb n least) (ltb most n) e .1)
 
 plan-slim : (k : Kind) (p x y z : ℕ) (a b c : Record) → outOfRange (uses k) p x z ≡ false
     → 10 * planBy k p x y z a b c .counts .variables ≤ planBy k p x y z a b c .counts .slots + 320

@@ -68,7 +68,7 @@ known-named : (n : ℕ) → 0 < n → (b : Bool) → Names n (known b)
 known-named n h true = h
 known-named n h false = h
 
-first-named : (n : ℕ) → 0 < n → (ls : List Lit) → bound ls ≤ n → Names n (getD ls 0 falsity)
+pub first-named : (n : ℕ) → 0 < n → (ls : List Lit) → bound ls ≤ n → Names n (getD ls 0 falsity)
 first-named n h [] b = h
 first-named n h (l ∷ ls) b = omega arith
 

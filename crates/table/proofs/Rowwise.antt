@@ -1,22 +1,33 @@
--- The rows of an accepted table, as a loop goes through them: all are ahead, then none is. Assumes nothing.
+-- An accepted table, known from its survey; its rows, as a loop goes through them: all are ahead, then none is. Assumes nothing.
 use mathlib.Core.Path.{_≡_, refl, sym, ap, _∙_, subst}
 use mathlib.Core.List.{List, [], _∷_}
 use Prim.Native.Nat.{ℕ, _*_, _≤_, _<_}
 use native.Mathlib.Omega.{arith}
-use lib.ListN.{length, getD, take}
-use lib.Seq.{getD-take}
+use lib.ListN.{length, getD, take, drop}
+use lib.Seq.{getD-take, take-at}
 use Rattle.circuit.specs.Counting.{theFirst}
 use Rattle.sheet.specs.declared.Fields.{Fields}
 use Rattle.sheet.specs.declared.Record.{Record}
 use Rattle.sheet.specs.declared.Reading.the-variants.{Read, Refused}
 use Rattle.sheet.specs.Rows.{rowsOf}
-use Rattle.sheet.specs.Acceptance.{missing, recordAt}
+use Rattle.sheet.specs.Acceptance.{missing, recordAt, accepted, Sheet, accept}
 use Rattle.sheet.proofs.Accepted.{Passed, IsAccepted, accepted-tells}
 use Rattle.sheet.proofs.Walked.{Ahead, ahead-all}
+use Rattle.table.specs.declared.answer.Survey.{Survey}
+use Rattle.table.specs.Surveys.{blank, asSurvey}
 use Rattle.table.specs.Accepted.{Accepted}
 use Rattle.table.proofs.Earlier.{zeros, any-default}
 
-module _ {table : List ℕ} {rows : ℕ} (a : Accepted table rows) where
+-- a survey that is no refusal holds the table's records
+abbrev pub known : {table : List ℕ} {sheet : Sheet} {s : Survey} → accept table ≡ accepted sheet → s ≡ asSurvey (accepted sheet) → Accepted table (s .rows) (s .records)
+known {sheet = sheet} is e = record {
+  sheet = sheet;
+  is = is;
+  many = sym (ap (λ (t : Survey). t .rows) e);
+  held = ap (λ (t : Survey). take (t .rows) (t .records)) e ∙ take-at (sheet .records) (drop (length (sheet .records)) blank) (length (sheet .records)) refl;
+}
+
+module _ {table : List ℕ} {rows : ℕ} {records : List Record} (a : Accepted table rows records) where
   abbrev pub tells : IsAccepted table (a .sheet)
   tells = accepted-tells table (a .sheet) (a .is)
 
@@ -33,12 +44,14 @@ module _ {table : List ℕ} {rows : ℕ} (a : Accepted table rows) where
   pub few-rows : rows ≤ 256
   few-rows = omega (arith, tells .few, a .many)
 
-  -- the record of an earlier row, in an array that has those of the table at its front
-  pub record-at : (records : List Record) → take rows records ≡ a .sheet .records → (r x : ℕ) → r ≤ rows → x < r → getD records x zeros ≡ recordAt (take r (a .sheet .records)) x
-  record-at records held r x h k =
-      let m : length (a .sheet .records) ≡ rows = a .many in
-      sym (getD-take rows records x zeros (omega arith)) ∙ ap (λ (rs : List Record). getD rs x zeros) held
-      ∙ any-default (a .sheet .records) x zeros missing (omega arith) ∙ sym (getD-take r (a .sheet .records) x missing k)
+  -- the record of a row, and of an earlier one
+  pub own-record : (x : ℕ) → x < rows → getD records x zeros ≡ recordAt (a .sheet .records) x
+  own-record x h =
+      sym (getD-take rows records x zeros h) ∙ ap (λ (rs : List Record). getD rs x zeros) (a .held)
+      ∙ any-default (a .sheet .records) x zeros missing (omega (arith, a .many))
+
+  pub record-at : (r x : ℕ) → r ≤ rows → x < r → getD records x zeros ≡ recordAt (take r (a .sheet .records)) x
+  record-at r x h k = own-record x (omega arith) ∙ sym (getD-take r (a .sheet .records) x missing k)
 
 pub none-left : (l : List Fields) → length l ≡ 0 → l ≡ []
 none-left [] h = refl

@@ -1,29 +1,26 @@
 -- A table that is written: it is accepted, and the map and the slots have room. Assumes nothing.
-use mathlib.Core.Path.{_≡_, refl, sym, ap, _∙_, subst}
+use mathlib.Core.Path.{_≡_, sym, ap, _∙_, subst}
 use mathlib.Core.List.{List}
 use Prim.Native.Nat.{ℕ, _*_, _≤_}
 use native.Mathlib.Omega.{arith}
 use borrow.Author.Tests.{ltb-false}
 use lib.Dec.{ltb}
-use lib.ListN.{length, take, drop}
-use lib.Seq.{take-at}
 use lib.IntN.{ℤ}
 use Rattle.sheet.specs.declared.Fields.{Fields}
+use Rattle.sheet.specs.declared.Record.{Record}
 use Rattle.sheet.specs.Rows.{rowsOf}
 use Rattle.sheet.specs.Steps.{slotsFor, mapFor}
 use Rattle.frame.specs.Frame.{front}
 use Rattle.sheet.specs.Acceptance.{Outcome, accepted, Sheet, accept}
 use Rattle.sheet.specs.Calls.{_>>_, refuse_unless_fit_, rowCount, checking, writing, left, sheetMap, sheetSlots}
-use Rattle.sheet.proofs.Accepted.{accepted-tells}
-use Rattle.sheet.proofs.Called.{bound-accepts, not-refused}
+use Rattle.sheet.proofs.Called.{same-accepted, bound-accepts, not-refused}
 use Rattle.table.specs.declared.answer.Survey.{Survey}
-use Rattle.table.specs.Surveys.{blank, asSurvey, InBounds}
+use Rattle.table.specs.Surveys.{asSurvey, InBounds}
+use Rattle.table.specs.Accepted.{Accepted}
 use Rattle.table.proofs.Earlier.{limits-at}
 use Rattle.table.proofs.Answers.{Numbered, bind-numbered, test-numbered, checking-numbered, left-accepted}
-use Rattle.writer.specs.Accepted.{Accepted}
-
-same-sheet : {a b : Sheet} → accepted a ≡ accepted b → a ≡ b
-same-sheet e = cc
+use Rattle.table.proofs.Rowwise.{known, all-read}
+use Rattle.writer.specs.Writable.{Writable}
 
 pub record Roomy (table : List ℕ) (sheet : Sheet) (mapRoom slotRoom : ℕ) : Type 0 where
   pub is : accept table ≡ accepted sheet
@@ -50,40 +47,26 @@ module _ (table : List ℕ) (records map slots : ℕ) where
       let (a, is, f) = bound-accepts (checking table records) e in
       let (long, g) = not-refused 12 (48 * rowCount a) (ltb map (48 * rowCount a)) f in
       let (wide, h) = not-refused 13 (a .counts .slots) (ltb slots (a .counts .slots)) g in
-      subst (λ (b : Sheet). Roomy table b map slots) (same-sheet h)
+      subst (λ (b : Sheet). Roomy table b map slots) (same-accepted h)
       (record { is = checking-tells a is; map = ltb-false map (48 * rowCount a) long; slots = ltb-false slots (a .counts .slots) wide })
 
--- the survey of a sheet holds its records
-module _ {s : Survey} (sheet : Sheet) (e : s ≡ asSurvey (accepted sheet)) where
-  rows-are : length (sheet .records) ≡ s .rows
-  rows-are = sym (ap (λ (t : Survey). t .rows) e)
+pub writable : {table : List ℕ} {sheet : Sheet} {s : Survey} {map slots : ℕ} → Roomy table sheet map slots → s ≡ asSurvey (accepted sheet) → InBounds s → Writable table (s .rows) (s .records) map slots
+writable {sheet = sheet} r e b =
+    let ok = known (r .is) e in
+    record {
+      table-is = ok;
+      denominators = λ x. limits-at (sheet .records) x (rw (ok .held) at (b .limits)) .denominator;
+      few = omega (arith, b .counts .variables, ap (λ (t : Survey). t .counts .variables) e);
+      map = omega (arith, r .map, ok .many);
+      slots = r .slots;
+    }
 
-  records-held : take (s .rows) (s .records) ≡ sheet .records
-  records-held = rw e (take-at (sheet .records) (drop (length (sheet .records)) blank) (length (sheet .records)) refl)
+-- what is written of the rows of an accepted table is what remains
+module _ {table : List ℕ} {rows : ℕ} {records : List Record} (ok : Accepted table rows records) {o : Outcome Sheet} (f : o ≡ accepted (ok .sheet)) where
+  pub map-left : (map₀ : List ℤ) {m : List ℤ} → m ≡ front (mapFor (rowsOf rows table)) map₀ → m ≡ left o sheetMap map₀
+  unfolding front
+  map-left map₀ g = g ∙ ap (λ (fs : List Fields). front (mapFor fs) map₀) (sym (all-read ok)) ∙ left-accepted sheetMap map₀ f
 
-  pub accepted-of : (table : List ℕ) {map slots : ℕ} → Roomy table sheet map slots → InBounds s → Accepted table (s .rows) (s .records) map slots
-  accepted-of table r b = record {
-    sheet = sheet;
-    is = r .is;
-    many = rows-are;
-    held = records-held;
-    denominators = λ x. limits-at (sheet .records) x (rw records-held at (b .limits)) .denominator;
-    few = omega (arith, b .counts .variables, ap (λ (t : Survey). t .counts .variables) e);
-    map = omega (arith, r .map, rows-are);
-    slots = r .slots;
-  }
-
-  -- what is written of its rows is what remains
-  module _ (table : List ℕ) (is : accept table ≡ accepted sheet) {o : Outcome Sheet} (f : o ≡ accepted sheet) where
-    rows-read : rowsOf (s .rows) table ≡ sheet .rows
-    rows-read =
-        let a = accepted-tells table sheet is in
-        sym (a .read ∙ ap (λ (n : ℕ). rowsOf n table) (sym (a .many) ∙ rows-are))
-
-    pub map-left : (map₀ : List ℤ) {m : List ℤ} → m ≡ front (mapFor (rowsOf (s .rows) table)) map₀ → m ≡ left o sheetMap map₀
-    unfolding front
-    map-left map₀ g = g ∙ ap (λ (fs : List Fields). front (mapFor fs) map₀) rows-read ∙ left-accepted sheetMap map₀ f
-
-    pub slots-left : (slots₀ : List ℤ) {l : List ℤ} → l ≡ front (slotsFor (rowsOf (s .rows) table)) slots₀ → l ≡ left o sheetSlots slots₀
-    unfolding front
-    slots-left slots₀ g = g ∙ ap (λ (fs : List Fields). front (slotsFor fs) slots₀) rows-read ∙ left-accepted sheetSlots slots₀ f
+  pub slots-left : (slots₀ : List ℤ) {l : List ℤ} → l ≡ front (slotsFor (rowsOf rows table)) slots₀ → l ≡ left o sheetSlots slots₀
+  unfolding front
+  slots-left slots₀ g = g ∙ ap (λ (fs : List Fields). front (slotsFor fs) slots₀) (sym (all-read ok)) ∙ left-accepted sheetSlots slots₀ f

@@ -20,11 +20,10 @@ use Rattle.sheet.proofs.Counted.{cell-at, cells-many}
 use Rattle.sheet.proofs.Pages.{Narrow, narrow-cells, pages-at}
 use Rattle.sheet.proofs.Total.{whole-table}
 use Rattle.promise.proofs.Counts.{counted, passed-narrow}
-use Rattle.table.specs.Accepted as Table
 use Rattle.table.proofs.Rowwise.{all-read}
 use Rattle.frame.specs.Frame.{front, over}
 use Rattle.frame.specs.Written.{written}
-use Rattle.writer.specs.Accepted.{Accepted, rowSlots}
+use Rattle.writer.specs.Writable.{Writable, rowSlots}
 use Rattle.writer.proofs.Table.{lastLiteral, table-slots, table-written}
 
 -- a page begins with the row's first literal
@@ -42,41 +41,39 @@ head-read cs rest x n h some =
     ∙ ap (λ (l : List ℤ). getD l 0 (pos 0)) (pages-at cs x rest n h)
     ∙ page-head (cellAt cs x .literals) some
 
-module _ (table : List ℕ) (rows : ℕ) (records : List Record) (map₀ slots₀ : List ℤ) (ok : Accepted table rows records (length map₀) (length slots₀)) where
-  known-rows : ok .sheet .rows ≡ rowsOf rows table
-  known-rows =
-      let known : Table.Accepted table rows = record { sheet = ok .sheet; is = ok .is; many = ok .many } in
-      all-read known
+module _ (table : List ℕ) (rows : ℕ) (records : List Record) (map₀ slots₀ : List ℤ) (ok : Writable table rows records (length map₀) (length slots₀)) where
+  known-rows : ok .table-is .sheet .rows ≡ rowsOf rows table
+  known-rows = all-read (ok .table-is)
 
   pub some-rows : 0 < rows
-  some-rows = omega (arith, accepted-tells table (ok .sheet) (ok .is) .some, ok .many)
+  some-rows = omega (arith, accepted-tells table (ok .table-is .sheet) (ok .table-is .is) .some, ok .table-is .many)
 
   -- room for all: the first unit, the rows and the last unit
   pub units-fit : 2 + length (rowSlots rows table) + 2 ≤ length slots₀
   unfolding rowSlots
   units-fit =
-      let k = counted table (ok .sheet) (ok .is) in
+      let k = counted table (ok .table-is .sheet) (ok .table-is .is) in
       let e = ap (λ (fs : List Fields). length (slotsFor fs)) known-rows in
       let f = ap length (table-slots (rowsOf rows table)) ∙ length-append (pos 1 ∷ pos 0 ∷ written 1 (gates 1 (stepsFrom [] (rowsOf rows table)))) (lastLiteral (rowsOf rows table) ∷ pos 0 ∷ []) in
       omega (arith, k .slot, ok .slots)
 
-  last-in : {m : List ℤ} → m ≡ front (mapFor (ok .sheet .rows)) map₀ → getD m (48 * (length (ok .sheet .rows) - 1)) (pos 0) ≡ lastLiteral (ok .sheet .rows)
+  last-in : {m : List ℤ} → m ≡ front (mapFor (ok .table-is .sheet .rows)) map₀ → getD m (48 * (length (ok .table-is .sheet .rows) - 1)) (pos 0) ≡ lastLiteral (ok .table-is .sheet .rows)
   unfolding mapFor cells steps front
   last-in e =
-      let fs = ok .sheet .rows in
-      let a = accepted-tells table (ok .sheet) (ok .is) in
-      let w = whole-table (ok .sheet) (a .total) (a .passed) in
+      let fs = ok .table-is .sheet .rows in
+      let a = accepted-tells table (ok .table-is .sheet) (ok .table-is .is) in
+      let w = whole-table (ok .table-is .sheet) (a .total) (a .passed) in
       let cs = out 1 (stepsFrom [] fs) in
-      let narrow = narrow-cells _ (ok .sheet .records) cs (w .fit) (passed-narrow fs [] theFirst (ok .sheet .records) (a .total) (a .passed) tt) in
-      let c = cell-at _ (omega arith) (ok .sheet .records) cs (w .fit) (length fs - 1) in
-      let many : length cs ≡ length fs = cells-many _ (ok .sheet .records) cs (w .fit) ∙ counted table (ok .sheet) (ok .is) .records in
-      let last : length fs - 1 < length cs = omega (arith, a .some, counted table (ok .sheet) (ok .is) .records) in
+      let narrow = narrow-cells _ (ok .table-is .sheet .records) cs (w .fit) (passed-narrow fs [] theFirst (ok .table-is .sheet .records) (a .total) (a .passed) tt) in
+      let c = cell-at _ (omega arith) (ok .table-is .sheet .records) cs (w .fit) (length fs - 1) in
+      let many : length cs ≡ length fs = cells-many _ (ok .table-is .sheet .records) cs (w .fit) ∙ counted table (ok .table-is .sheet) (ok .table-is .is) .records in
+      let last : length fs - 1 < length cs = omega (arith, a .some, counted table (ok .table-is .sheet) (ok .table-is .is) .records) in
       ap (λ (l : List ℤ). getD l (48 * (length fs - 1)) (pos 0)) e ∙ head-read cs _ (length fs - 1) narrow last (omega (arith, c .some, c .lits .size))
 
   pub last-read : {m : List ℤ} → m ≡ front (mapFor (rowsOf rows table)) map₀ → getD m (48 * (rows - 1)) (pos 0) ≡ lastLiteral (rowsOf rows table)
   last-read {m} e =
       let r = known-rows in
-      let n : rows ≡ length (ok .sheet .rows) = omega (arith, ok .many, counted table (ok .sheet) (ok .is) .records) in
+      let n : rows ≡ length (ok .table-is .sheet .rows) = omega (arith, ok .table-is .many, counted table (ok .table-is .sheet) (ok .table-is .is) .records) in
       ap (λ (i : ℕ). getD m (48 * (i - 1)) (pos 0)) n ∙ last-in (e ∙ ap (λ (fs : List Fields). front (mapFor fs) map₀) (sym r)) ∙ ap lastLiteral r
 
   -- the slots of the whole table

@@ -9,7 +9,7 @@ ghost use Rattle.sheet.specs.Steps.{mapFor, slotsFor};
 ghost use Rattle.sheet.specs.Calls.{writing, left, sheetMap, sheetSlots};
 ghost use Rattle.frame.specs.Frame.{front};
 ghost use Rattle.table.specs.Surveys.{asSurvey, InBounds};
-ghost use Rattle.writer.specs.Accepted.{Accepted};
+ghost use Rattle.writer.specs.Writable.{Writable};
 use sheet::Record;
 use table::answer::Survey;
 
@@ -50,7 +50,7 @@ pub fn write_table(
     map: &mut [i32],
     slots: &mut [i32],
 )
-    requires { ⌜ Accepted (now table) rows records (length (now map)) (length (now slots)) ⌝ }
+    requires { ⌜ Writable (now table) rows records (length (now map)) (length (now slots)) ⌝ }
     ensures slots { λ _. ⌜ now (slots .exit) ≡ front (slotsFor (rowsOf rows (now (table .entry)))) (now (slots .entry)) ⌝ }
     ensures map { λ _. ⌜ now (map .exit) ≡ front (mapFor (rowsOf rows (now (table .entry)))) (now (map .entry)) ⌝ }
 {

@@ -34,21 +34,20 @@ use Rattle.literal_map.proofs.Reading.{slots-read}
 use Rattle.numbers.specs.Bounds.{Denominator}
 use Rattle.number_row.specs.Over.{IsOver}
 use Rattle.row_writer.specs.Ready.{Ready, stepsOver}
-use Rattle.table.specs.Accepted as Table
 use Rattle.table.proofs.Earlier.{zeros}
-use Rattle.table.proofs.Rowwise.{tells, all-read, all-ahead, all-bytes, few-rows, record-at, none-left}
-use Rattle.writer.specs.Accepted.{Accepted, rowSlots}
+use Rattle.table.proofs.Rowwise.{tells, all-read, all-ahead, record-at, none-left}
+use Rattle.writer.specs.Writable.{Writable, rowSlots}
 use Rattle.writer.proofs.Walk.{Walk, walk-all, walk-cell, walk-room, walk-next, walk-end}
 use Rattle.writer.proofs.Table.{table-map}
 
 -- r rows are written
 pub record Walking (table : List ℕ) (rows : ℕ) (records : List Record) (map₀ slots₀ map slots : List ℤ) (at n r : ℕ) : Type 0 where
-  pub ok : Accepted table rows records (length map₀) (length slots₀)
+  pub ok : Writable table rows records (length map₀) (length slots₀)
   pub some : 0 < n
   pub rest : List Fields
   pub total : Counts
-  pub ahead : Ahead table (ok .sheet .records) total rows r rest
-  pub walk : Walk 2 1 (rowsOf rows table) map₀ slots₀ map slots at n r (take r (ok .sheet .records)) rest
+  pub ahead : Ahead table (ok .table-is .sheet .records) total rows r rest
+  pub walk : Walk 2 1 (rowsOf rows table) map₀ slots₀ map slots at n r (take r (ok .table-is .sheet .records)) rest
 
 room-for : (fs all : List Fields) (l : List ℤ) {v s : ℕ} → fs ≡ all → length (gates 0 (steps fs)) ≡ v → length (slotsOf (clausesFrom 0 (gates 0 (steps fs)))) ≡ s → v < 2147483648 → s ≤ length l
     → Room 2 1 (gates 1 (stepsFrom [] all)) l
@@ -59,21 +58,18 @@ room-for fs all l e p q few room =
     record { place = omega (arith, q′); number = omega (arith, p′) }
 
 -- there is room for all rows
-module _ (table : List ℕ) (rows : ℕ) (records : List Record) (map₀ slots₀ : List ℤ) (ok : Accepted table rows records (length map₀) (length slots₀)) where
+module _ (table : List ℕ) (rows : ℕ) (records : List Record) (map₀ slots₀ : List ℤ) (ok : Writable table rows records (length map₀) (length slots₀)) where
   abbrev all : List Fields
   all = rowsOf rows table
 
-  abbrev known : Table.Accepted table rows
-  known = record { sheet = ok .sheet; is = ok .is; many = ok .many }
-
   room : Room 2 1 (gates 1 (stepsFrom [] all)) slots₀
   room =
-      let a = tells known in
-      let w = whole-table (ok .sheet) (a .total) (a .passed) in
-      room-for (ok .sheet .rows) all slots₀ (all-read known) (w .variables) (w .slot) (omega (arith, ap (λ (k : Counts). k .variables) (a .counted), ok .few)) (omega (arith, ap (λ (k : Counts). k .slots) (a .counted), ok .slots))
+      let a = tells (ok .table-is) in
+      let w = whole-table (ok .table-is .sheet) (a .total) (a .passed) in
+      room-for (ok .table-is .sheet .rows) all slots₀ (all-read (ok .table-is)) (w .variables) (w .slot) (omega (arith, ap (λ (k : Counts). k .variables) (a .counted), ok .few)) (omega (arith, ap (λ (k : Counts). k .slots) (a .counted), ok .slots))
 
   pub walking-none : Walking table rows records map₀ slots₀ map₀ slots₀ 2 1 0
-  walking-none = record { ok = ok; some = omega arith; rest = all; total = tells known .total; ahead = all-ahead known; walk = walk-all room }
+  walking-none = record { ok = ok; some = omega arith; rest = all; total = tells (ok .table-is) .total; ahead = all-ahead (ok .table-is); walk = walk-all room }
 
 module _ {table : List ℕ} {rows : ℕ} {records : List Record} {map₀ slots₀ map slots : List ℤ} {at n r : ℕ} (p : Walking table rows records map₀ slots₀ map slots at n r) where
   -- all rows are written
@@ -81,26 +77,20 @@ module _ {table : List ℕ} {rows : ℕ} {records : List Record} {map₀ slots�
   unfolding rowSlots
   walking-end h =
       let e = none-left (p .rest) (omega (arith, p .ahead .left)) in
-      let (w, m) = walk-end (subst (λ (fs : List Fields). Walk 2 1 (rowsOf rows table) map₀ slots₀ map slots at n r (take r (p .ok .sheet .records)) fs) e (p .walk)) in
+      let (w, m) = walk-end (subst (λ (fs : List Fields). Walk 2 1 (rowsOf rows table) map₀ slots₀ map slots at n r (take r (p .ok .table-is .sheet .records)) fs) e (p .walk)) in
       (w .slots, (w .place, rw (table-map (rowsOf rows table)) m))
 
   -- what does not change
-  pub walking-bytes : length table ≡ 8 * rows
-  walking-bytes = all-bytes (known table rows records map₀ slots₀ (p .ok))
-
-  pub walking-few : rows ≤ 256
-  walking-few = few-rows (known table rows records map₀ slots₀ (p .ok))
-
   pub walking-long : (length map ≡ length map₀) × (length slots ≡ length slots₀)
   walking-long = (p .walk .long, p .walk .left .long)
 
   -- row r is next
   module _ (h : r < rows) where
     abbrev before : List Record
-    before = take r (p .ok .sheet .records)
+    before = take r (p .ok .table-is .sheet .records)
 
-    pub walking-row : Row table (p .ok .sheet .records) (p .total) rows r (p .rest)
-    walking-row = ahead-row table (p .ok .sheet .records) (p .total) rows r (p .rest) h (p .ahead)
+    pub walking-row : Row table (p .ok .table-is .sheet .records) (p .total) rows r (p .rest)
+    walking-row = ahead-row table (p .ok .table-is .sheet .records) (p .total) rows r (p .rest) h (p .ahead)
 
     pub here : Walk 2 1 (rowsOf rows table) map₀ slots₀ map slots at n r before (walking-row .fields ∷ walking-row .others)
     here = subst (λ (fs : List Fields). Walk 2 1 (rowsOf rows table) map₀ slots₀ map slots at n r before fs) (walking-row .split) (p .walk)
@@ -115,7 +105,7 @@ module _ {table : List ℕ} {rows : ℕ} {records : List Record} {map₀ slots�
     read-record : (x : ℕ) → x < r → getD records (min x r) zeros ≡ recordAt before x
     read-record x k =
         let i : min x r ≡ x = omega arith in
-        rw i (record-at (known table rows records map₀ slots₀ (p .ok)) records (p .ok .held) r x (omega arith) k)
+        rw i (record-at (p .ok .table-is) r x (omega arith) k)
 
     pub walking-held : (x : ℕ) → Held map r x (getD records (min x r) zeros)
     walking-held x k =
@@ -146,7 +136,7 @@ module _ {table : List ℕ} {rows : ℕ} {records : List Record} {map₀ slots�
             record { cell = e ∙ ap (cellIn map x) s ∙ walk-cell here (p .some) x i; record-of = f ∙ s; operand = q .operand }
         by false k e f =
             let i = ltb-false x r k in
-            let m : length before ≤ x = omega (arith, length-take-le r (p .ok .sheet .records) (omega (arith, p .ok .many))) in
+            let m : length before ≤ x = omega (arith, length-take-le r (p .ok .table-is .sheet .records) (omega (arith, p .ok .table-is .many))) in
             record {
               cell = e ∙ sym (List·getD-eq-default (here .cells) (cell (falsity ∷ []) 1) (omega (arith, here .many)));
               record-of = f ∙ sym (List·getD-eq-default before missing m);
@@ -157,9 +147,9 @@ module _ {table : List ℕ} {rows : ℕ} {records : List Record} {map₀ slots�
     denominators x = by (ltb x r) refl
       where
         by : (t : Bool) → ltb x r ≡ t → Denominator (recordAt before x .denominator)
-        by true k = rw (getD-take r (p .ok .sheet .records) x missing (ltb-true x r k)) (p .ok .denominators x)
+        by true k = rw (getD-take r (p .ok .table-is .sheet .records) x missing (ltb-true x r k)) (p .ok .denominators x)
         by false k =
-            let m : length before ≤ x = omega (arith, ltb-false x r k, length-take-le r (p .ok .sheet .records) (omega (arith, p .ok .many))) in
+            let m : length before ≤ x = omega (arith, ltb-false x r k, length-take-le r (p .ok .table-is .sheet .records) (omega (arith, p .ok .table-is .many))) in
             rw (List·getD-eq-default before missing m) (record { some = omega arith; most = omega arith })
 
     is-over : {x : ℕ} {o : Operand} → Is x o → IsOver o
@@ -167,8 +157,8 @@ module _ {table : List ℕ} {rows : ℕ} {records : List Record} {map₀ slots�
 
     -- the row is ready, there is room for it, and when it is written and stored one row more is
     module _ {f : Fields} (e : walking-row .fields ≡ f) {a b c : Operand} (ia : Is (f .x) a) (ib : Is (f .y) b) (ic : Is (f .z) c) where
-      passes : Passes before (walking-row .at) f (recordAt (p .ok .sheet .records) r) (walking-row .counts)
-      passes = subst (λ (g : Fields). Passes before (walking-row .at) g (recordAt (p .ok .sheet .records) r) (walking-row .counts)) e (walking-row .passes)
+      passes : Passes before (walking-row .at) f (recordAt (p .ok .table-is .sheet .records) r) (walking-row .counts)
+      passes = subst (λ (g : Fields). Passes before (walking-row .at) g (recordAt (p .ok .table-is .sheet .records) r) (walking-row .counts)) e (walking-row .passes)
 
       pub walking-ready : Ready f a b c
       walking-ready = record {

@@ -1,2 +1,2 @@
 -- A table that is accepted and has room. Assumes nothing.
-pub mod Accepted
+pub mod Writable

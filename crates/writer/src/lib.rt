@@ -5,7 +5,7 @@ ghost use lib.ListN.{length};
 ghost use Rattle.sheet.specs.Rows.{rowsOf};
 ghost use Rattle.sheet.specs.Steps.{mapFor};
 ghost use Rattle.frame.specs.Frame.{front, over};
-ghost use Rattle.writer.specs.Accepted.{Accepted, rowSlots};
+ghost use Rattle.writer.specs.Writable.{Writable, rowSlots};
 use sheet::Reading;
 use sheet::Record;
 
@@ -17,7 +17,7 @@ pub fn write_rows(
     map: &mut [i32],
     slots: &mut [i32],
 ) -> usize
-    requires { ⌜ Accepted (now table) rows records (length (now map)) (length (now slots)) ⌝ }
+    requires { ⌜ Writable (now table) rows records (length (now map)) (length (now slots)) ⌝ }
     ensures slots { λ at. ⌜ now (slots .exit) ≡ over 2 (rowSlots rows (now (table .entry))) (now (slots .entry)) ⌝ ∗ ⌜ at ≡ 2 + length (rowSlots rows (now (table .entry))) ⌝ }
     ensures map { λ _. ⌜ now (map .exit) ≡ front (mapFor (rowsOf rows (now (table .entry)))) (now (map .entry)) ⌝ }
 {

@@ -2,7 +2,8 @@
 use native.Mathlib.Omega.{arith}
 use mir.Facts.{toZ-ofZ}
 use Rattle.frame.proofs.Literals.{minus-zero, neg-fits}
-use Rattle.assign.proofs.Bytes.{value-negative, value-positive, index-negative, index-positive}
+use Rattle.whole.proofs.Tests.{not-below}
+use Rattle.assign.proofs.Bytes.{value-negative, value-positive, index-negative}
 use Rattle.assign.proofs.is_true.Statement.{statement}
 use Rattle.assign.proofs.is_true.Tie as tie
 
@@ -46,7 +47,7 @@ cast-k-2 c =
     let s = c .before in
     let x = s .args .x in
     let l = s .pre .lit in
-    rw (toZ-ofZ (s .fits .x)) (index-positive x (rw (toZ-ofZ (s .fits .x)) at (c .if1 .left)), record { fits = omega (arith, l .fits) })
+    rw (toZ-ofZ (s .fits .x)) (not-below x (rw (toZ-ofZ (s .fits .x)) at (c .if1 .left)), record { fits = omega (arith, l .fits) })
 
 sub-result-2 : tie.Need-sub-result-2
 sub-result-2 c = let s = c .before in rw (toZ-ofZ (s .fits .x)) (s .pre .lit .some)

@@ -12,7 +12,8 @@ use Rattle.sheet.specs.Values.{inBits}
 use Rattle.arithmetic.proofs.Words.{kept}
 use Rattle.declared.proofs.Limits.{declared}
 use Rattle.table.proofs.Rowwise.{all-bytes, few-rows, same-read, not-refused}
-use Rattle.choose.proofs.Outside.{bit-most, Looking, looking-none, looking-end, looking-row, looking-stop, looking-next}
+use Rattle.unknown.proofs.Taken.{bit-most}
+use Rattle.choose.proofs.Outside.{Looking, looking-none, looking-end, looking-row, looking-stop, looking-next}
 use Rattle.choose.proofs.first_outside.Statement.{statement}
 use Rattle.choose.proofs.first_outside.Tie as tie
 
@@ -25,10 +26,10 @@ abbrev μ-loop : tie.MeasureT-loop
 -- ---- in a turn
 module _ (q : tie.In-loop Inv-loop μ-loop) where
   small : q .before .loop .r < 256
-  small = omega (arith, q .loop-test .taken, few-rows (q .before .loop .inv .ok))
+  small = omega (arith, q .loop-test .taken, few-rows (q .before .loop .inv .ok .table-is))
 
   row-ends : 8 * q .before .loop .r + 8 ≤ length (q .before .before .before .args .table .now)
-  row-ends = omega (arith, q .loop-test .taken, all-bytes (q .before .loop .inv .ok))
+  row-ends = omega (arith, q .loop-test .taken, all-bytes (q .before .loop .inv .ok .table-is))
 
 loop-holds : tie.Need-loop-holds Inv-loop μ-loop
 loop-holds c = looking-none (c .before .pre)

@@ -5,23 +5,23 @@ use mathlib.Core.List.{[]}
 use Prim.Native.Nat.{_+_, _*_, _<_}
 use native.Mathlib.Omega.{arith}
 use borrow.Author.Needs.{needs}
-use borrow.Author.Tests.{not-true, not-false}
 use lib.ListN.{length, set}
-use Rattle.frame.proofs.Frames.{over-none, over-set}
+use Rattle.frame.proofs.Frames.{rest-all, over-none, over-set}
 use Rattle.arithmetic.proofs.Words.{kept}
-use Rattle.decode.specs.Settings.{readsUnknown, rowAt}
-use Rattle.decode.proofs.Rows.{rest-all, setting-none, setting-some}
+use Rattle.unknown.specs.Unknowns.{readsUnknown, rowAt}
+use Rattle.unknown.proofs.Taken.{bit-none, bit-some}
+use Rattle.decode.proofs.Rows.{setting-none, setting-some}
 use Rattle.decode.proofs.put_setting.Statement.{statement}
 use Rattle.decode.proofs.put_setting.Tie as tie
 
-unknown-row-requires : tie.Need-unknown-row-requires
-unknown-row-requires c κs = search needs
+asked-at-requires : tie.Need-asked-at-requires
+asked-at-requires c κs = search needs
 
 returns : tie.Need-returns
 returns c =
     let u = c .before in
     let s = u .before .before .before in
-    let e = sym (u .unknown-row .ensures) ∙ not-true _ (c .if1 .taken) in
+    let e = bit-none _ (sym (u .asked-at .ensures) ∙ c .if1 .taken) in
     let none = setting-none (s .args .table .now) (s .args .r) (s .args .of) (s .args .map .now) (s .args .model .now) e in
     (rw none (sym (over-none (s .args .n) (s .args .values .now))), rw none (omega arith))
 
@@ -50,13 +50,13 @@ module _ (c : tie.After-setting) where
   unknown : readsUnknown (rowAt (c .before .before .before .before .before .before .before .args .table .now) (c .before .before .before .before .before .before .before .args .r)) ≡ true
   unknown =
       let k = c .before .before .before in
-      sym (k .before .unknown-row .ensures) ∙ not-false _ (k .if1 .left)
+      bit-some _ (λ e. k .if1 .left (k .before .asked-at .ensures ∙ e))
 
   in-room : c .before .before .before .before .before .before .before .args .n < length (c .before .before .before .before .before .before .before .args .values .now)
   in-room = c .before .before .before .before .before .before .before .pre .fits unknown
 
-mul-t17 : tie.Need-mul-t17
-mul-t17 c = let h = in-room c in search needs
+mul-t16 : tie.Need-mul-t16
+mul-t16 c = let h = in-room c in search needs
 
 slice-set-from-values : tie.Need-slice-set-from-values
 slice-set-from-values c = in-room c
@@ -81,7 +81,7 @@ pub put-setting-spec : {M : Type 1} → statement M
 put-setting-spec =
     tie.close
     (tie.spec
-    unknown-row-requires
+    asked-at-requires
     returns
     places-requires
     mul-setting
@@ -89,7 +89,7 @@ put-setting-spec =
     part-setting-start
     part-setting-end
     setting-requires
-    mul-t17
+    mul-t16
     slice-set-from-values
     add-result
     same-length

@@ -2,7 +2,7 @@
 use Prim.Native.Nat.{_-_, _<_}
 use native.Mathlib.Omega.{arith}
 use borrow.Author.Needs.{needs}
-use Rattle.decode.proofs.Rows.{rows-few}
+use Rattle.table.proofs.Rowwise.{few-rows}
 use Rattle.decode.proofs.Putting.{Putting, putting-none, putting-end, putting-row, putting-next}
 use Rattle.decode.proofs.put_settings.Statement.{statement}
 use Rattle.decode.proofs.put_settings.Tie as tie
@@ -15,7 +15,7 @@ abbrev μ-loop : tie.MeasureT-loop
 
 -- in a turn
 small : (q : tie.In-loop Inv-loop μ-loop) → q .before .loop .r < 256
-small q = omega (arith, q .loop-test .taken, rows-few (q .before .loop .inv .ok))
+small q = omega (arith, q .loop-test .taken, few-rows (q .before .loop .inv .ok .table-is))
 
 loop-holds : tie.Need-loop-holds Inv-loop μ-loop
 loop-holds c = putting-none _ _ _ _ _ _ (c .before .before .pre)

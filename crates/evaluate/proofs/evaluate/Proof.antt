@@ -2,7 +2,7 @@
 use borrow.Author.Needs.{needs}
 use Rattle.sheet.specs.Calls.{choosing}
 use Rattle.choose.proofs.Choosing.{Surveyed, surveyed, choosing-numbered}
-use Rattle.evaluate.proofs.Evaluating.{not-chosen, too-short, chosen, evaluated}
+use Rattle.evaluate.proofs.Evaluating.{not-chosen, too-short, evaluable, evaluated}
 use Rattle.evaluate.proofs.evaluate.Statement.{statement}
 use Rattle.evaluate.proofs.evaluate.Tie as tie
 
@@ -37,7 +37,7 @@ fill-requires c κs =
     let h = c .before .before in
     let n = h .before .before in
     let s = n .before .before .before .before in
-    chosen (s .args .table .now) (s .args .values .now) (s .args .results .now) (read n) (h .if2 .left)
+    evaluable (s .args .table .now) (s .args .values .now) (s .args .results .now) (read n) (h .if2 .left)
 
 same-length : tie.Need-same-length
 same-length c = search needs

@@ -11,7 +11,7 @@ use Rattle.sheet.specs.Rows.{uses, isUnknown}
 use Rattle.arithmetic.proofs.Words.{kept}
 use Rattle.row_value.specs.declared.Operand.{Operand}
 use Rattle.row_value.proofs.Accepting.{OperandAt}
-use Rattle.choose.proofs.Outside.{bit-most}
+use Rattle.unknown.proofs.Taken.{bit-most}
 use Rattle.table.proofs.Rowwise.{all-bytes, few-rows, same-read, not-refused}
 use Rattle.evaluate.proofs.Filling.{Filling, filling-none, filling-end, filling-long, filling-row, filling-operand, filling-ready, filling-next}
 use Rattle.evaluate.proofs.fill.Statement.{statement}

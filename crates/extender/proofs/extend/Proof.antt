@@ -4,8 +4,8 @@ use lib.IntN.{pos}
 use lib.ListN.{replicate}
 use Rattle.sheet.specs.Calls.{choosing}
 use Rattle.choose.proofs.Choosing.{Surveyed, surveyed, choosing-numbered}
-use Rattle.evaluate.proofs.Evaluating.{chosen}
-use Rattle.extender.proofs.Extending.{not-chosen, too-short, some, ready, extended}
+use Rattle.evaluate.proofs.Evaluating.{evaluable}
+use Rattle.extender.proofs.Extending.{not-chosen, too-short, some, extendable, extended}
 use Rattle.extender.proofs.extend.Statement.{statement}
 use Rattle.extender.proofs.extend.Tie as tie
 
@@ -42,7 +42,7 @@ fill-requires c κs =
     let h = c .before .before in
     let n = h .before .before .before in
     let s = n .before .before .before .before .before in
-    chosen (s .args .table .now) (s .args .values .now) (replicate 256 (pos 0)) (read n) (n .before .before .choose .ensures .1 .few)
+    evaluable (s .args .table .now) (s .args .values .now) (replicate 256 (pos 0)) (read n) (n .before .before .choose .ensures .1 .few)
 
 slice-aggregate-extend-rows : tie.Need-slice-aggregate-extend-rows
 slice-aggregate-extend-rows c = search needs
@@ -53,7 +53,7 @@ extend-rows-requires c κs =
     let h = f .before .before .before in
     let n = h .before .before .before in
     let s = n .before .before .before .before .before in
-    ready (s .args .table .now) (s .args .values .now) (s .args .model .now) (read n) (h .if2 .left) _ (f .fill .ensures)
+    extendable (s .args .table .now) (s .args .values .now) (s .args .model .now) (read n) (h .if2 .left) _ (f .fill .ensures)
 
 slice-aggregate-is-true : tie.Need-slice-aggregate-is-true
 slice-aggregate-is-true c = search needs

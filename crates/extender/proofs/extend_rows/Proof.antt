@@ -9,20 +9,15 @@ use lib.ListN.{length, getD}
 use mir.Syntax.{w64}
 use mir.Val.{toZ, ofZ}
 use Rattle.sheet.specs.declared.Fields.{Fields}
-use Rattle.sheet.specs.declared.Reading.the-variants.{Read, Refused}
 use Rattle.sheet.specs.Rows.{uses, isUnknown}
+use Rattle.unknown.proofs.Taken.{bit-most}
 use Rattle.arithmetic.proofs.Words.{kept}
+use Rattle.table.proofs.Rowwise.{all-bytes, few-rows, same-read, not-refused}
 use Rattle.extend.proofs.Putting.{put-long}
 use Rattle.extender.proofs.Standing.{Stands}
-use Rattle.extender.proofs.Walking.{Walking, at-most-one, truth-room, all-put, walking-none, walking-end, walking-bytes, walking-few, walking-long, walking-row, walking-results, before, walking-stands, walking-ready, walking-place, walking-next}
+use Rattle.extender.proofs.Walking.{Walking, truth-room, all-put, walking-none, walking-end, walking-long, walking-row, before, walking-stands, walking-ready, walking-place, walking-next}
 use Rattle.extender.proofs.extend_rows.Statement.{statement}
 use Rattle.extender.proofs.extend_rows.Tie as tie
-
-same-read : {f g : Fields} → Read f ≡ Read g → f ≡ g
-same-read e = cc
-
-not-refused : {f : Fields} {n : ℕ} → Read f ≡ Refused n → ⊥
-not-refused e = let z : _≡_ {A = ℕ} 0 1 = cc in absurd (omega arith)
 
 abbrev Inv-loop : tie.InvT-loop
 Inv-loop table rows results values model₀ records at₀ u₀ r₀ model at u r = Walking table rows records results values model₀ model at u r
@@ -43,10 +38,10 @@ loop-holds c =
 -- ---- in a turn
 module _ (q : tie.In-loop Inv-loop μ-loop) where
   small : q .before .loop .r < 256
-  small = omega (arith, q .loop-test .taken, walking-few (q .before .loop .inv))
+  small = omega (arith, q .loop-test .taken, few-rows (q .before .loop .inv .ok .evaluable .table-is))
 
   row-ends : 8 * q .before .loop .r + 8 ≤ length (q .before .before .before .before .before .before .before .before .args .table .now)
-  row-ends = omega (arith, q .loop-test .taken, walking-bytes (q .before .loop .inv))
+  row-ends = omega (arith, q .loop-test .taken, all-bytes (q .before .loop .inv .ok .evaluable .table-is))
 
 mul-start : tie.Need-mul-start Inv-loop μ-loop
 mul-start c = let h = small c in search needs
@@ -107,7 +102,7 @@ module _ (w : tie.After-f Inv-loop μ-loop) where
 
   -- there are a record and a numerator at every place
   there : (i x : ℕ) → i ≡ min x (turn .before .loop .r) → (i < 256) × (i < length (turn .before .before .before .before .before .before .before .before .args .results .now))
-  there i x e = (omega (arith, e, small turn), omega (arith, e, walking-results (turn .before .loop .inv) (turn .loop-test .taken)))
+  there i x e = (omega (arith, e, small turn), omega (arith, e, turn .loop-test .taken, turn .before .loop .inv .ok .evaluable .fits))
 
 mul-refer : tie.Need-mul-refer Inv-loop μ-loop
 mul-refer c =
@@ -217,7 +212,7 @@ asked-requires c κs = tt
 add-u : tie.Need-add-u Inv-loop μ-loop
 add-u c =
     let q = turn (found (c .before .before .before .before)) in
-    omega (arith, small q, q .before .loop .inv .taken, c .asked .ensures, at-most-one (isUnknown (uses (named (c .before .before .before .before) .kind))))
+    omega (arith, small q, q .before .loop .inv .taken, c .asked .ensures, bit-most (isUnknown (uses (named (c .before .before .before .before) .kind))))
 
 add-r : tie.Need-add-r Inv-loop μ-loop
 add-r c = omega (arith, small (turn (found (c .before .before .before .before))))

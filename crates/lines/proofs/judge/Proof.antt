@@ -8,7 +8,8 @@ use borrow.Author.Needs.{needs}
 use borrow.Author.Tests.{not-true, not-false}
 use lib.ListN.{length, drop, length-drop}
 use Rattle.sheet.specs.Texts.{beginsLine, linesFrom}
-use Rattle.lines.proofs.Laws.{lines-end, lines-ended, lines-full, lines-more, begins-long, rest-all}
+use Rattle.frame.proofs.Frames.{rest-all}
+use Rattle.lines.proofs.Laws.{lines-end, lines-ended, lines-full, lines-more, begins-long}
 use Rattle.lines.proofs.judge.Statement.{statement}
 use Rattle.lines.proofs.judge.Tie as tie
 

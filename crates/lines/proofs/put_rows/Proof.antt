@@ -6,9 +6,9 @@ use native.Mathlib.Nat.{sub-zero}
 use native.Mathlib.Omega.{arith}
 use lib.ListN.{length, drop}
 use Rattle.frame.specs.Frame.{front, over}
-use Rattle.frame.proofs.Frames.{over-zero, over-none, over-over, length-over, lent}
+use Rattle.frame.proofs.Frames.{over-zero, over-none, over-over, length-over, rest-all, lent}
 use Rattle.sheet.specs.Texts.{bytesIn, tableIn}
-use Rattle.lines.proofs.Laws.{table-more, table-end, eight-bytes, rest-all}
+use Rattle.lines.proofs.Laws.{table-more, table-end, eight-bytes}
 use borrow.Author.Needs.{needs}
 use Rattle.lines.proofs.put_rows.Statement.{statement}
 use Rattle.lines.proofs.put_rows.Tie as tie

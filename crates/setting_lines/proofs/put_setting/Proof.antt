@@ -1,47 +1,105 @@
--- `setting_lines::put_setting` meets its contract. Assumes nothing.
+-- `setting_lines::put_setting` meets its contract: each kind of an arm has the arm's piece. Assumes nothing.
 use mathlib.Core.Path.{sym, _∙_}
+use mathlib.Core.List.{List, [], _∷_}
+use Prim.Native.Nat.{ℕ}
 use mir.Facts.{toZ-ofZ}
-use Rattle.print.proofs.Puts.{put-none}
-use Rattle.setting_lines.proofs.Rows.{bit-none, bit-some, piece-none, piece-unknown}
+use lib.IntN.{ℤ}
 use borrow.Author.Needs.{needs}
+use Rattle.sheet.specs.declared.Kind.{Kind}
+use Rattle.sheet.specs.declared.Fields.{Fields}
+use Rattle.sheet.specs.declared.Reading.the-variants.{Read}
+use Rattle.sheet.specs.Values.{rowVal}
+use Rattle.sheet.proofs.Kind.{enum}
+use Rattle.row.proofs.Tags.{by-tag}
+use Rattle.print.specs.Put.{Put}
+use Rattle.print.proofs.Puts.{put-none}
+use Rattle.setting_lines.specs.Settings.{settingPiece}
 use Rattle.setting_lines.proofs.put_setting.Statement.{statement}
 use Rattle.setting_lines.proofs.put_setting.Tie as tie
 
-unknown-bit-requires : tie.Need-unknown-bit-requires
-unknown-bit-requires c κs = search needs
+read-row-requires : tie.Need-read-row-requires
+read-row-requires c κs = search needs
+
+enum-known-f : tie.Need-enum-known-f
+enum-known-f c = search needs
+
+enum-told : tie.Need-enum-told
+enum-told c = search needs
 
 returns : tie.Need-returns
 returns c =
-    let u = c .before in
-    let s = u .before .before .before in
-    rw (piece-none (s .args .i) (s .args .row .now) (s .args .numerator) (bit-none _ (sym (u .unknown-bit .ensures) ∙ c .if1 .taken)))
-    (put-none (s .args .at) (s .args .out .now))
+    let j = c .before .before in
+    rw (sym (j .read-row .ensures) ∙ c .enum-told .given .1) (put-none _ _)
 
-declared-by-requires : tie.Need-declared-by-requires
-declared-by-requires c κs = search needs
+enum-told-2 : tie.Need-enum-told-2
+enum-told-2 c = search needs
 
 put-setting-line-requires : tie.Need-put-setting-line-requires
 put-setting-line-requires c κs = search needs
 
+cast-put-setting-line : tie.Need-cast-put-setting-line
+cast-put-setting-line c = search needs
+
+put-setting-line-requires-2 : tie.Need-put-setting-line-requires-2
+put-setting-line-requires-2 c κs = search needs
+
 same-length : tie.Need-same-length
 same-length c = search needs
 
+same-length-2 : tie.Need-same-length-2
+same-length-2 c = search needs
+
+-- a row of the kind k with the fields of f puts its piece
+abbrev Puts : (i : ℕ) (v : ℤ) (at : ℕ) (before after : List ℕ) (next : ℕ) → Fields → Kind → Type 0
+Puts i v at before after next f k = Put (settingPiece i (Read (record { kind = k; p = f .p; x = f .x; y = f .y; z = f .z })) v) at before after next
+
 returns-2 : tie.Need-returns-2
+unfolding rowVal
 returns-2 c =
     let d = c .before .before in
-    let u = d .before .before .before .before in
-    let s = u .before .before .before in
-    let known = bit-some _ (λ e. d .before .before .before .if1 .left (u .unknown-bit .ensures ∙ e)) in
-    rw (piece-unknown (s .args .i) (s .args .row .now) (s .args .numerator) known)
-    (rw (toZ-ofZ (s .fits .numerator), d .before .declared-by .ensures) at (d .put-setting-line .ensures))
+    let k = d .before .before in
+    let w = k .before .before .before in
+    let j = w .before .before in
+    let s = j .before .before .before in
+    rw (sym (j .read-row .ensures) ∙ w .f .given .1, k .enum-told2 .given .1) (rw (toZ-ofZ (s .fits .numerator)) at (d .put-setting-line .ensures))
+
+returns-3 : tie.Need-returns-3
+unfolding rowVal
+returns-3 c =
+    let d = c .before .before in
+    let k = d .before .before .before in
+    let w = k .before .before in
+    let j = w .before .before in
+    let s = j .before .before .before in
+    let e = rw (toZ-ofZ (s .fits .numerator)) at (d .put-setting-line2 .ensures) in
+    rw (sym (j .read-row .ensures) ∙ w .f .given .1)
+    (by-tag enum (Puts (s .args .i) (s .args .numerator) (s .args .at) (s .args .out .now) (d .put-setting-line2 .last .0) (d .put-setting-line2 .result) (w .f .given .0 .0)) (2 ∷ 3 ∷ []) (w .f .given .0 .0 .kind) (k .match2 .keys2)
+    (λ v. e, (λ v. e, tt)))
+
+returns-4 : tie.Need-returns-4
+returns-4 c =
+    let w = c .before .before in
+    let j = w .before .before in
+    let s = j .before .before .before in
+    let e = put-none (s .args .at) (s .args .out .now) in
+    rw (sym (j .read-row .ensures) ∙ w .f .given .1)
+    (by-tag enum (Puts (s .args .i) (s .args .numerator) (s .args .at) (s .args .out .now) (s .args .out .now) (s .args .at) (w .f .given .0 .0)) (0 ∷ 4 ∷ 5 ∷ 6 ∷ 7 ∷ 8 ∷ 9 ∷ 10 ∷ 11 ∷ 12 ∷ 13 ∷ 14 ∷ 15 ∷ []) (w .f .given .0 .0 .kind) (c .match2 .keys3)
+    (λ v. e, (λ v. e, (λ v. e, (λ v. e, (λ v. e, (λ v. e, (λ v. e, (λ v. e, (λ v. e, (λ v. e, (λ v. e, (λ v. e, (λ v. e, tt))))))))))))))
 
 pub put-setting-spec : {M : Type 1} → statement M
 put-setting-spec =
     tie.close
     (tie.spec
-    unknown-bit-requires
+    read-row-requires
+    enum-known-f
+    enum-told
     returns
-    declared-by-requires
+    enum-told-2
     put-setting-line-requires
+    cast-put-setting-line
+    put-setting-line-requires-2
     same-length
-    returns-2)
+    returns-2
+    same-length-2
+    returns-3
+    returns-4)

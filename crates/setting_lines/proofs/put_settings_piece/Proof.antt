@@ -10,8 +10,8 @@ use borrow.Author.Needs.{needs}
 use Rattle.setting_lines.proofs.put_settings_piece.Statement.{statement}
 use Rattle.setting_lines.proofs.put_settings_piece.Tie as tie
 
-numerator-at-requires : tie.Need-numerator-at-requires
-numerator-at-requires c κs = search needs
+value-at-requires : tie.Need-value-at-requires
+value-at-requires c κs = search needs
 
 mul-from : tie.Need-mul-from
 mul-from c = search needs
@@ -43,14 +43,14 @@ returns c =
     let i = s .args .i in
     let h : i < length table / 8 = omega (arith, s .pre) in
     let eight : 8 * i + 8 - 8 * i ≡ 8 = omega arith in
-    let printed = rw (eight, toZ-ofZ {z = v .numerator-at .result} (record { sfits = v .numerator-at .ok }), v .numerator-at .ensures, s .pre .1 .1) at (d .put-setting .ensures) in
+    let printed = rw (eight, toZ-ofZ {z = v .value-at .result} (record { sfits = v .value-at .ok }), v .value-at .ensures, s .pre .1 .1) at (d .put-setting .ensures) in
     rw (piece-at i (length table / 8) 0 table (s .args .numerators .now) h, zero-add) printed
 
 pub put-settings-piece-spec : {M : Type 1} → statement M
 put-settings-piece-spec =
     tie.close
     (tie.spec
-    numerator-at-requires
+    value-at-requires
     mul-from
     add-put-setting
     sub-put-setting

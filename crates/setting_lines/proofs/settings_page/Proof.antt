@@ -56,15 +56,15 @@ put-settings-piece-requires c κs =
     let t = c .before .before .before in
     (omega arith, (omega arith, t .loop .inv .1 .number))
 
-unknown-at-requires : tie.Need-unknown-at-requires Inv-loop μ-loop
-unknown-at-requires c κs = omega arith
+asked-at-requires : tie.Need-asked-at-requires Inv-loop μ-loop
+asked-at-requires c κs = omega arith
 
 add-used : tie.Need-add-used Inv-loop μ-loop
 add-used c =
     let t = c .before .before .before .before .before .before .before in
     let table = t .before .before .before .before .before .args .table .now in
     let next = t .loop .next in
-    omega (arith, t .loop .inv .1 .number, c .unknown-at .ensures, unknowns-more next table, unknowns-few (next + 1) table)
+    omega (arith, t .loop .inv .1 .number, c .asked-at .ensures, unknowns-more next table, unknowns-few (next + 1) table)
 
 add-next : tie.Need-add-next Inv-loop μ-loop
 add-next c = search needs
@@ -86,7 +86,7 @@ loop-again c =
       t .loop .inv .0,
       record {
         within = omega arith;
-        number = rw (c .unknown-at .ensures, i .number) (sym (unknowns-more next table));
+        number = rw (c .asked-at .ensures, i .number) (sym (unknowns-more next table));
         page = left-step (i .page) (rw many h) (omega arith) short (d .put-settings-piece .ensures);
       },
     )
@@ -115,7 +115,7 @@ settings-page-spec =
     same-length
     returns-2
     put-settings-piece-requires
-    unknown-at-requires
+    asked-at-requires
     add-used
     add-next
     loop-less

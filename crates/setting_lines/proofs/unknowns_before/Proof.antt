@@ -23,15 +23,15 @@ abbrev μ-loop : tie.MeasureT-loop
 loop-holds : tie.Need-loop-holds Inv-loop μ-loop
 loop-holds c = record { within = omega arith; number = sym (unknowns-none _) }
 
-unknown-at-requires : tie.Need-unknown-at-requires Inv-loop μ-loop
-unknown-at-requires c κs = search needs
+asked-at-requires : tie.Need-asked-at-requires Inv-loop μ-loop
+asked-at-requires c κs = search needs
 
 add-n : tie.Need-add-n Inv-loop μ-loop
 add-n c =
     let t = c .before .before in
     let table = t .before .before .args .table .now in
     let e = unknowns-more (t .loop .i) table in
-    omega (arith, e, t .loop .inv .number, c .unknown-at .ensures, unknowns-few (t .loop .i + 1) table)
+    omega (arith, e, t .loop .inv .number, c .asked-at .ensures, unknowns-few (t .loop .i + 1) table)
 
 add-i : tie.Need-add-i Inv-loop μ-loop
 add-i c = search needs
@@ -44,7 +44,7 @@ loop-again c =
     let t = c .before .before in
     let table = t .before .before .args .table .now in
     let e = unknowns-more (t .loop .i) table in
-    record { within = omega arith; number = rw (c .unknown-at .ensures, t .loop .inv .number) (sym e) }
+    record { within = omega arith; number = rw (c .asked-at .ensures, t .loop .inv .number) (sym e) }
 
 returns : tie.Need-returns Inv-loop μ-loop
 returns c =
@@ -60,7 +60,7 @@ unknowns-before-spec =
     Inv-loop
     μ-loop
     loop-holds
-    unknown-at-requires
+    asked-at-requires
     add-n
     add-i
     loop-less

@@ -7,7 +7,7 @@ use native.Mathlib.Omega.{arith}
 use borrow.Author.Needs.{needs}
 use lib.ListN.{length, replicate, length-replicate}
 use lib.Seq.{length-take-le}
-use Rattle.lines.proofs.Laws.{rest-all}
+use Rattle.frame.proofs.Frames.{rest-all}
 use Rattle.print.proofs.Pieces.{piece-whole}
 use Rattle.program.proofs.Tables.{found-few, found-table}
 use Rattle.settings_text.specs.Replies.{wholeText}

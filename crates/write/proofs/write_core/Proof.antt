@@ -2,8 +2,9 @@
 use lib.ListN.{length}
 use borrow.Author.Needs.{needs}
 use Rattle.sheet.specs.Calls.{writing, sheetMap, sheetSlots}
+use Rattle.table.proofs.Rowwise.{known}
 use Rattle.table.proofs.Answers.{was-accepted, was-refused, left-refused}
-use Rattle.write.proofs.Roomy.{writing-numbered, writing-tells, accepted-of, map-left, slots-left}
+use Rattle.write.proofs.Roomy.{writing-numbered, writing-tells, writable, map-left, slots-left}
 use Rattle.write.proofs.write_core.Statement.{statement}
 use Rattle.write.proofs.write_core.Tie as tie
 
@@ -28,7 +29,7 @@ write-table-requires c κs =
     let maps = length (s .args .map .now) in
     let slots = length (s .args .slots .now) in
     let (sheet, is, e) = was-accepted (writing table (s .args .records) maps slots) value (writing-numbered table (s .args .records) maps slots) (n .if1 .left) in
-    accepted-of sheet e table (writing-tells table (s .args .records) maps slots sheet is) bounds
+    writable (writing-tells table (s .args .records) maps slots sheet is) e bounds
 
 same-length : tie.Need-same-length
 same-length c = search needs
@@ -47,8 +48,8 @@ returns-2 c =
     let maps = length (s .args .map .now) in
     let slots = length (s .args .slots .now) in
     let (sheet, is, e) = was-accepted (writing table (s .args .records) maps slots) value (writing-numbered table (s .args .records) maps slots) (n .if1 .left) in
-    let r = writing-tells table (s .args .records) maps slots sheet is in
-    (value, (bounds, (map-left sheet e table (r .is) is (s .args .map .now) (w .write-table .ensures .1), slots-left sheet e table (r .is) is (s .args .slots .now) (w .write-table .ensures .0))))
+    let ok = known (writing-tells table (s .args .records) maps slots sheet is .is) e in
+    (value, (bounds, (map-left ok is (s .args .map .now) (w .write-table .ensures .1), slots-left ok is (s .args .slots .now) (w .write-table .ensures .0))))
 
 pub write-core-spec : {M : Type 1} → statement M
 write-core-spec =

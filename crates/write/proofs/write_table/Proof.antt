@@ -11,7 +11,7 @@ use mir.Val.{SFits}
 use mir.Facts.{toZ-ofZ}
 use Rattle.sheet.specs.Rows.{rowsOf}
 use Rattle.frame.proofs.Frames.{lent}
-use Rattle.writer.specs.Accepted.{Accepted}
+use Rattle.writer.specs.Writable.{Writable}
 use Rattle.writer.proofs.Table.{lastLiteral}
 use Rattle.write.proofs.Units.{some-rows, units-fit, last-read, units-written}
 use Rattle.write.proofs.write_table.Statement.{statement}
@@ -27,7 +27,7 @@ write-rows-requires c κs =
     let u = c .before .before .before in
     let s = u .before .before .before in
     let e : length (u .put-unit .last .0) ≡ length (s .args .slots .now) = search needs in
-    subst (λ (n : ℕ). Accepted (s .args .table .now) (s .args .rows) (s .args .records) (length (s .args .map .now)) n) (sym e) (s .pre)
+    subst (λ (n : ℕ). Writable (s .args .table .now) (s .args .rows) (s .args .records) (length (s .args .map .now)) n) (sym e) (s .pre)
 
 -- the rows are written
 record Known (rows at places room : ℕ) : Type 0 where

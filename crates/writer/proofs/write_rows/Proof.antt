@@ -6,8 +6,8 @@ use native.Mathlib.Omega.{arith}
 use borrow.Author.Needs.{needs}
 use lib.ListN.{length}
 use Rattle.sheet.specs.declared.Fields.{Fields}
-use Rattle.table.proofs.Rowwise.{same-read, not-refused}
-use Rattle.writer.proofs.Walking.{Walking, walking-none, walking-end, walking-bytes, walking-few, walking-long, walking-row, walking-held, Is, walking-operand, walking-ready, walking-room, walking-next}
+use Rattle.table.proofs.Rowwise.{all-bytes, few-rows, same-read, not-refused}
+use Rattle.writer.proofs.Walking.{Walking, walking-none, walking-end, walking-long, walking-row, walking-held, Is, walking-operand, walking-ready, walking-room, walking-next}
 use Rattle.writer.proofs.write_rows.Statement.{statement}
 use Rattle.writer.proofs.write_rows.Tie as tie
 
@@ -20,10 +20,10 @@ abbrev μ-loop : tie.MeasureT-loop
 -- ---- in a turn
 module _ (q : tie.In-loop Inv-loop μ-loop) where
   small : q .before .loop .r < 256
-  small = omega (arith, q .loop-test .taken, walking-few (q .before .loop .inv))
+  small = omega (arith, q .loop-test .taken, few-rows (q .before .loop .inv .ok .table-is))
 
   row-ends : 8 * q .before .loop .r + 8 ≤ length (q .before .before .before .args .table .now)
-  row-ends = omega (arith, q .loop-test .taken, walking-bytes (q .before .loop .inv))
+  row-ends = omega (arith, q .loop-test .taken, all-bytes (q .before .loop .inv .ok .table-is))
 
 loop-holds : tie.Need-loop-holds Inv-loop μ-loop
 loop-holds c = walking-none _ _ _ _ _ (c .before .pre)

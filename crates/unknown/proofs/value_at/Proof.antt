@@ -1,10 +1,10 @@
--- `choose::value_at` meets its contract. Assumes nothing.
+-- `unknown::value_at` meets its contract. Assumes nothing.
 use mathlib.Core.Path.{sym}
 use lib.IntN.{pos}
 use lib.ListN.{List·getD-eq-default}
 use borrow.Author.Needs.{needs}
-use Rattle.choose.proofs.value_at.Statement.{statement}
-use Rattle.choose.proofs.value_at.Tie as tie
+use Rattle.unknown.proofs.value_at.Statement.{statement}
+use Rattle.unknown.proofs.value_at.Tie as tie
 
 mul-result : tie.Need-mul-result
 mul-result c = search needs

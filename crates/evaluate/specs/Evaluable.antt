@@ -1,15 +1,12 @@
 -- An accepted table and values chosen for its unknowns, with room for a result a row. Assumes nothing.
-use mathlib.Core.Path.{_≡_}
 use mathlib.Core.List.{List}
 use Prim.Native.Nat.{ℕ, _≤_}
 use lib.IntN.{ℤ}
-use lib.ListN.{take}
 use Rattle.sheet.specs.declared.Record.{Record}
 use Rattle.sheet.specs.Values.{Within}
 use Rattle.table.specs.Accepted.{Accepted}
 
-pub record Chosen (table : List ℕ) (rows : ℕ) (records : List Record) (values : List ℤ) (room : ℕ) : Type 0 where
-  pub table-is : Accepted table rows
-  pub held : take rows records ≡ table-is .sheet .records
+pub record Evaluable (table : List ℕ) (rows : ℕ) (records : List Record) (values : List ℤ) (room : ℕ) : Type 0 where
+  pub table-is : Accepted table rows records
   pub within : Within (table-is .sheet .rows) values
   pub fits : rows ≤ room

@@ -1,9 +1,9 @@
--- `decode::unknown_row` meets its contract. Assumes nothing.
+-- `unknown::asked_at` meets its contract. Assumes nothing.
 use mathlib.Core.Path.{sym, _∙_}
 use native.Mathlib.Nat.{add-sub-cancel-left}
 use borrow.Author.Needs.{needs}
-use Rattle.decode.proofs.unknown_row.Statement.{statement}
-use Rattle.decode.proofs.unknown_row.Tie as tie
+use Rattle.unknown.proofs.asked_at.Statement.{statement}
+use Rattle.unknown.proofs.asked_at.Tie as tie
 
 mul-start : tie.Need-mul-start
 mul-start c = search needs
@@ -35,18 +35,18 @@ returns c =
     let u = rw add-sub-cancel-left at (sym (j .read-row .ensures) ∙ c .enum-told .given .1) in
     rw u
 
-unknown-kind-requires : tie.Need-unknown-kind-requires
-unknown-kind-requires c κs = search needs
+asked-requires : tie.Need-asked-requires
+asked-requires c κs = search needs
 
 returns-2 : tie.Need-returns-2
 returns-2 c =
     let w = c .before .before in
     let j = w .before .before in
     let u = rw add-sub-cancel-left at (sym (j .read-row .ensures) ∙ w .f .given .1) in
-    rw u (c .unknown-kind .ensures)
+    rw u (c .asked .ensures)
 
-pub unknown-row-spec : {M : Type 1} → statement M
-unknown-row-spec =
+pub asked-at-spec : {M : Type 1} → statement M
+asked-at-spec =
     tie.close
     (tie.spec
     mul-start
@@ -58,5 +58,5 @@ unknown-row-spec =
     enum-known-f
     enum-told
     returns
-    unknown-kind-requires
+    asked-requires
     returns-2)

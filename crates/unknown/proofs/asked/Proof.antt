@@ -1,4 +1,4 @@
--- `choose::asked` meets its contract: each kind of an arm takes as many values. Assumes nothing.
+-- `unknown::asked` meets its contract: each kind of an arm takes as many values. Assumes nothing.
 use mathlib.Core.Path.{_≡_, refl}
 use mathlib.Core.List.{[], _∷_}
 use Prim.Native.Nat.{ℕ}
@@ -7,8 +7,8 @@ use Rattle.sheet.specs.declared.Kind.{Kind}
 use Rattle.sheet.specs.Rows.{uses, isUnknown}
 use Rattle.sheet.proofs.Kind.{enum}
 use Rattle.row.proofs.Tags.{by-tag}
-use Rattle.choose.proofs.asked.Statement.{statement}
-use Rattle.choose.proofs.asked.Tie as tie
+use Rattle.unknown.proofs.asked.Statement.{statement}
+use Rattle.unknown.proofs.asked.Tie as tie
 
 abbrev Takes : ℕ → Kind → Type 0
 Takes n k = n ≡ bit (isUnknown (uses k))

@@ -1,0 +1,2 @@
+-- The values that rows take. Assumes nothing.
+pub mod Taken

@@ -1,0 +1,2 @@
+-- Which of a table's rows are unknowns. Assumes nothing.
+pub mod Unknowns
