@@ -9,3 +9,4 @@ pub mod Assessor
 pub mod Outcomes
 pub mod Evaluated
 pub mod Across
+pub mod LastClause
