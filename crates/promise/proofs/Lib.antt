@@ -10,3 +10,4 @@ pub mod Outcomes
 pub mod Evaluated
 pub mod Across
 pub mod LastClause
+pub mod Printed
