@@ -31,3 +31,9 @@ pub record MeetTheSheet (input text : List ℕ) : Type 0 where
 -- whatever is read, settings that are printed meet the sheet
 abbrev pub PrintedMeetTheSheet : Type 0
 PrintedMeetTheSheet = (input : List ℕ) → TellsSettings (settingsProgram input) → MeetTheSheet input (settingsProgram input)
+
+-- and they are read in one way only: no two choices of values for a table print the same text
+abbrev pub PrintedTellsTheValues : Type 0
+PrintedTellsTheValues =
+    (table : List ℕ) (sheet : Sheet) → accept table ≡ accepted sheet → (vs ws : List ℤ) → Within (sheet .rows) vs → Within (sheet .rows) ws
+    → settingLines 0 (sheet .rows) (rowValues (sheet .rows) vs) ≡ settingLines 0 (sheet .rows) (rowValues (sheet .rows) ws) → vs ≡ ws
