@@ -34,18 +34,18 @@ module _ {A : Type 0} where
   unfolding left
   written-front sheet written n many o e before = rw e (take-at (written sheet) (drop (length (written sheet)) before) n many)
 
-measured : (table : List ℕ) (sheet : Sheet) → accept table ≡ accepted sheet → Measures table (Counted (sheet .counts))
+pub measured : (table : List ℕ) (sheet : Sheet) → accept table ≡ accepted sheet → Measures table (Counted (sheet .counts))
 measured table sheet e = record { says = rw e }
 
 -- ---- what a call tells that is done
 
 -- extending has told a truth: of an accepted table and values within their bits, whose model it wrote
-record Told (table : List ℕ) (values : List ℤ) (b : Bool) (model₁ : List ℕ) : Type 0 where
-  sheet : Sheet
-  isSheet : accept table ≡ accepted sheet
-  within : Within (sheet .rows) values
-  truth-is : constraint sheet values ≡ b
-  model-is : take (sheet .counts .variables) model₁ ≡ modelOf values sheet
+pub record Told (table : List ℕ) (values : List ℤ) (b : Bool) (model₁ : List ℕ) : Type 0 where
+  pub sheet : Sheet
+  pub isSheet : accept table ≡ accepted sheet
+  pub within : Within (sheet .rows) values
+  pub truth-is : constraint sheet values ≡ b
+  pub model-is : take (sheet .counts .variables) model₁ ≡ modelOf values sheet
 
 extending-tells : (table : List ℕ) (values : List ℤ) (room : ℕ) (sheet : Sheet) → extending table values room ≡ accepted sheet → (accept table ≡ accepted sheet) × Within (sheet .rows) values
 unfolding extending
@@ -54,7 +54,7 @@ extending-tells table values room sheet e =
     let same = not-refused 18 (a .counts .variables) (ltb room (a .counts .variables)) rest .1 in
     choosing-tells table values (chooses ∙ same)
 
-extends-tells : (table : List ℕ) (values : List ℤ) (model₀ model₁ : List ℕ) (b : Bool) → Extends table values model₀ (Constraint b) model₁ → Told table values b model₁
+pub extends-tells : (table : List ℕ) (values : List ℤ) (model₀ model₁ : List ℕ) (b : Bool) → Extends table values model₀ (Constraint b) model₁ → Told table values b model₁
 extends-tells table values model₀ model₁ b x =
     let (sheet, o, t) = bound-accepts (extending table values (length model₀)) (sym (x .says)) in
     let (e, within) = extending-tells table values (length model₀) sheet o in
@@ -80,7 +80,7 @@ module _ (table : List ℕ) (records₀ records₁ : List Record) (map₀ map₁
       let within = settings-meet-the-sheet table (length records₀) (length map₀) (length slots₀) model (length values₀) sheet o .0 in
       ap (take (sheet .counts .unknowns)) (d .values) ∙ written-front sheet (settingsOf model) (sheet .counts .unknowns) (within .number ∙ sym (counted table sheet e .unknown)) outcome o values₀
 
-writes : (table : List ℕ) (sheet : Sheet) → accept table ≡ accepted sheet → (records map slots : ℕ) → rowCount sheet ≤ records → 48 * rowCount sheet ≤ map → sheet .counts .slots ≤ slots
+pub writes : (table : List ℕ) (sheet : Sheet) → accept table ≡ accepted sheet → (records map slots : ℕ) → rowCount sheet ≤ records → 48 * rowCount sheet ≤ map → sheet .counts .slots ≤ slots
     → writing table records map slots ≡ accepted sheet
 unfolding writing checking
 writes table sheet e records map slots r m s =

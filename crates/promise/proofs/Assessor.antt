@@ -8,16 +8,16 @@ use lib.Dec.{eqb, ltb}
 use lib.ListN.{length, length-map}
 use lib.IntN.{ℤ}
 use Rattle.whole.specs.Bits.{bit}
-use Rattle.circuit.specs.Literals.{Assignment, clauseTrue, allTrue}
+use Rattle.circuit.specs.Literals.{Assignment, Clause, clauseTrue, allTrue}
 use Rattle.circuit.proofs.Assignments.{allTrue-append}
 use Rattle.sheet.specs.declared.Fields.{Fields}
-use Rattle.sheet.specs.Values.{every, Within}
-use Rattle.sheet.specs.Acceptance.{accepted, Sheet, accept}
-use Rattle.sheet.specs.Steps.{clausesButLast, lastClause, clauses, settings, extension}
-use Rattle.sheet.specs.Calls.{checking, writing, decodable, decoding, assigned, constraint, falseAt, rowCount, unknownCount}
+use Rattle.sheet.specs.Values.{every, rowValues, Within}
+use Rattle.sheet.specs.Acceptance.{Outcome, accepted, Sheet, accept}
+use Rattle.sheet.specs.Steps.{clausesButLast, lastClause, clauses, readRows, settings, extension}
+use Rattle.sheet.specs.Calls.{_>>_, refuse_counting_unless_, falseAt, rowCount, unknownCount, checking, writing, decodable, decoding, assigned, modelOf, constraint}
 use Rattle.sheet.proofs.Called.{bound-accepts, not-refused, first-false, every-clause}
 use Rattle.promise.specs.Promise.{SettingsMeetTheSheet, NoneLost, NoneExists}
-use Rattle.promise.proofs.Promise.{known, model-within, model-last, demand-three}
+use Rattle.promise.proofs.Promise.{known, model-tells, model-within, model-last, demand-three}
 
 -- ---- what decoding tells
 
@@ -51,17 +51,23 @@ decodable-tells table r m s model v sheet e =
     let e : a ≡ sheet = cc in
     record { isSheet = writing-tells table r m s a writes ∙ same; sized = eqb-true (length model) many (not-false (eqb (length model) many) sized) ∙ ap (λ (x : Sheet). x .counts .variables) e }
 
+-- where no clause is false, every clause is true
+module _ {A : Type 0} where
+  pub none-false : (s : Assignment) (cs : List Clause) {rest : Outcome A} {a : A} → ((refuse 19 counting 1 unless map (clauseTrue s) cs) >> rest) ≡ accepted a
+      → (allTrue s cs ≡ true) × (rest ≡ accepted a)
+  none-false s cs e =
+      let truths = map (clauseTrue s) cs in
+      let (met, same) = not-refused 19 (falseAt 1 truths) (ltb (falseAt 1 truths) (1 + length truths)) e in
+      (sym (every-clause s cs) ∙ not-false (every truths) (sym (first-false 1 truths) ∙ met), same)
+
 pub decoding-tells : (table : List ℕ) (r m s : ℕ) (model : List ℕ) (v : ℕ) (sheet : Sheet) → decoding table r m s model v ≡ accepted sheet
     → Decoded table model sheet × (allTrue (assigned model) (clauses (sheet .rows)) ≡ true)
 unfolding decoding
 decoding-tells table r m s model v sheet e =
     let (a, decodes, rest) = bound-accepts (decodable table r m s model v) e in
-    let truths = map (clauseTrue (assigned model)) (clauses (a .rows)) in
-    let (met, same) = not-refused 19 (falseAt 1 truths) (ltb (falseAt 1 truths) (1 + length truths)) rest in
+    let (all, same) = none-false (assigned model) (clauses (a .rows)) rest in
     let e : a ≡ sheet = cc in
-    let all : every truths ≡ true = not-false (every truths) (sym (first-false 1 truths) ∙ met) in
-    subst (λ (x : Sheet). Decoded table model x × (allTrue (assigned model) (clauses (x .rows)) ≡ true)) e
-    (decodable-tells table r m s model v a decodes, sym (every-clause (assigned model) (clauses (a .rows))) ∙ all)
+    subst (λ (x : Sheet). Decoded table model x × (allTrue (assigned model) (clauses (x .rows)) ≡ true)) e (decodable-tells table r m s model v a decodes, all)
 
 -- ---- every clause is every one but the last, and the last
 
@@ -69,12 +75,23 @@ last-of : (s : Assignment) (rows : List Fields) → allTrue s (clauses rows) ≡
 unfolding clauses
 last-of s rows = allTrue-append s (clausesButLast rows) (lastClause rows ∷ []) ∙ ap (λ (b : Bool). allTrue s (clausesButLast rows) && b) (and-true (clauseTrue s (lastClause rows)))
 
+-- what an assignment tells that makes every clause true
+pub record Met (sheet : Sheet) (s : Assignment) : Type 0 where
+  pub within : Within (sheet .rows) (settings sheet s)
+  pub holds : constraint sheet (settings sheet s) ≡ true
+  pub rows : readRows sheet s ≡ rowValues (sheet .rows) (settings sheet s)
+
+pub clauses-met : (table : List ℕ) (sheet : Sheet) → accept table ≡ accepted sheet → (s : Assignment) → allTrue s (clauses (sheet .rows)) ≡ true → Met sheet s
+clauses-met table sheet e s all =
+    let k = known table sheet e in
+    let (but, last) = and-eq-true-iff (allTrue s (clausesButLast (sheet .rows))) (clauseTrue s (lastClause (sheet .rows))) .0 (sym (last-of s (sheet .rows)) ∙ all) in
+    record { within = model-within sheet k s but; holds = sym (model-last sheet k s but) ∙ last; rows = model-tells sheet k s but .1 .rows }
+
 pub settings-meet-the-sheet : SettingsMeetTheSheet
 settings-meet-the-sheet table r m s model v sheet e =
     let (decoded, all) = decoding-tells table r m s model v sheet e in
-    let k = known table sheet (decoded .isSheet) in
-    let (but, last) = and-eq-true-iff (allTrue (assigned model) (clausesButLast (sheet .rows))) (clauseTrue (assigned model) (lastClause (sheet .rows))) .0 (sym (last-of (assigned model) (sheet .rows)) ∙ all) in
-    (model-within sheet k (assigned model) but, sym (model-last sheet k (assigned model) but) ∙ last)
+    let met = clauses-met table sheet (decoded .isSheet) (assigned model) all in
+    (met .within, met .holds)
 
 -- ---- the model that extending gives
 
@@ -96,26 +113,33 @@ extension-meets table sheet e values within holds =
     let p = demand-three table sheet e values within in
     last-of s (sheet .rows) ∙ and-eq-true-iff (allTrue s (clausesButLast (sheet .rows))) (clauseTrue s (lastClause (sheet .rows))) .1 (p .one .meets, p .last s (p .one) ∙ holds)
 
-decodes : (table : List ℕ) (r m s : ℕ) (model : List ℕ) (v : ℕ) (sheet : Sheet) → writing table r m s ≡ accepted sheet → length model ≡ sheet .counts .variables
-    → every (map (λ (b : ℕ). ltb b 2) model) ≡ true → unknownCount sheet ≤ v → allTrue (assigned model) (clauses (sheet .rows)) ≡ true → decoding table r m s model v ≡ accepted sheet
-unfolding decoding decodable
-decodes table r m s model v sheet writes sized binary room all =
+can-decode : (table : List ℕ) (r m s : ℕ) (model : List ℕ) (v : ℕ) (sheet : Sheet) → writing table r m s ≡ accepted sheet → length model ≡ sheet .counts .variables
+    → every (map (λ (b : ℕ). ltb b 2) model) ≡ true → unknownCount sheet ≤ v → decodable table r m s model v ≡ accepted sheet
+unfolding decodable
+can-decode table r m s model v sheet writes sized binary room =
     let many = sheet .counts .variables in
     let bytes = map (λ (b : ℕ). ltb b 2) model in
-    let truths = map (clauseTrue (assigned model)) (clauses (sheet .rows)) in
     let t₁₆ : not (eqb (length model) many) ≡ false = ap not (eq-eqb (length model) many sized) in
     let t₁₇ : ltb (falseAt 0 bytes) (0 + length bytes) ≡ false = first-false 0 bytes ∙ ap not binary in
     let t₁₈ : ltb v (unknownCount sheet) ≡ false = le-ltb v (unknownCount sheet) room in
-    let t₁₉ : ltb (falseAt 1 truths) (1 + length truths) ≡ false = first-false 1 truths ∙ ap not (every-clause (assigned model) (clauses (sheet .rows)) ∙ all) in
-    rw (writes, t₁₆, t₁₇, t₁₈, t₁₉)
+    rw (writes, t₁₆, t₁₇, t₁₈)
+
+-- decoding the model that extending gives tries its clauses, and refuses nothing before
+pub extension-decoded : (table : List ℕ) (r m s v : ℕ) (sheet : Sheet) → writing table r m s ≡ accepted sheet → unknownCount sheet ≤ v → (values : List ℤ) → Within (sheet .rows) values
+    → decoding table r m s (modelOf values sheet) v ≡ ((refuse 19 counting 1 unless map (clauseTrue (extension (sheet .rows) values)) (clauses (sheet .rows))) >> accepted sheet)
+unfolding decoding
+extension-decoded table r m s v sheet writes room values within =
+    let x = extension (sheet .rows) values in
+    let one = demand-three table sheet (writing-tells table r m s sheet writes) values within .one in
+    rw (can-decode table r m s (map bit x) v sheet writes (length-map x bit ∙ one .sized) (bits-small x) room, bits-back x)
 
 pub none-lost : NoneLost
 none-lost table r m s v sheet writes room values within holds =
     let e = writing-tells table r m s sheet writes in
     let x = extension (sheet .rows) values in
-    let p = demand-three table sheet e values within in
-    let all : allTrue (assigned (map bit x)) (clauses (sheet .rows)) ≡ true = rw (bits-back x) (extension-meets table sheet e values within holds) in
-    (decodes table r m s (map bit x) v sheet writes (length-map x bit ∙ p .one .sized) (bits-small x) room all, ap (settings sheet) (bits-back x) ∙ p .one .reads)
+    let truths = map (clauseTrue x) (clauses (sheet .rows)) in
+    let t₁₉ : ltb (falseAt 1 truths) (1 + length truths) ≡ false = first-false 1 truths ∙ ap not (every-clause x (clauses (sheet .rows)) ∙ extension-meets table sheet e values within holds) in
+    (extension-decoded table r m s v sheet writes room values within ∙ rw t₁₉, ap (settings sheet) (bits-back x) ∙ demand-three table sheet e values within .one .reads)
 
 pub none-exists : NoneExists
 none-exists table sheet e none values within = by (constraint sheet values) refl
