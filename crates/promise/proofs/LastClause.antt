@@ -18,7 +18,7 @@ use Rattle.promise.specs.Across.{ExtendedFalseRefused}
 use Rattle.promise.proofs.Counts.{counted}
 use Rattle.promise.proofs.Promise.{demand-three}
 use Rattle.promise.proofs.Assessor.{extension-decoded}
-use Rattle.promise.proofs.Outcomes.{same-answer}
+use Rattle.promise.proofs.Outcomes.{same-said}
 use Rattle.promise.proofs.Across.{measured, extends-tells, writes}
 
 -- the first false clause behind true ones
@@ -64,5 +64,5 @@ extended-false-refused table values model₀ model₁ x =
           let o : decoding table r m s (take (sheet .counts .variables) model₁) v ≡ refused 19 (sheet .counts .clauses)
           = ap (λ (model : List ℕ). decoding table r m s model v) (t .model-is) ∙ extension-decoded table r m s v sheet written (omega (arith, room .valueRoom)) values (t .within)
           ∙ ap (λ o. o >> accepted sheet) (false-refused table sheet e values (t .within) (t .truth-is)) in
-          same-answer {b = Refused 19 (sheet .counts .clauses)} (d .says) (sym (ap done o)),
+          same-said answer (Refused 19 (sheet .counts .clauses)) (d .says) (sym (ap done o)),
     )
