@@ -16,9 +16,7 @@ fn first_outside(table: &[u8], rows: usize, values: &[i64]) -> usize
     let mut i = 0;
     let mut r = 0;
     while r < rows {
-        let start = 8 * r;
-        let end = start + 8;
-        let Reading::Read(f) = row::read_row(&table[start..end]) else {
+        let Reading::Read(f) = row::read_at(table, r) else {
             return 0;
         };
         let kind = f.kind;

@@ -31,7 +31,8 @@ use Rattle.table.proofs.Earlier.{zeros}
 use Rattle.table.proofs.Rowwise.{tells, own-record}
 use Rattle.assign.specs.Model.{LitOf, AllLitOf}
 use Rattle.bits.specs.Readings.{Page}
-use Rattle.unknown.specs.Unknowns.{readsUnknown, rowAt}
+use Rattle.row.specs.RowAt.{rowAt}
+use Rattle.unknown.specs.Unknowns.{readsUnknown}
 use Rattle.decode.specs.Settings.{settingIn, Decodable}
 
 -- ---- one row's setting

@@ -13,7 +13,8 @@ use Rattle.sheet.specs.Steps.{readAs, mapFor}
 use Rattle.sheet.specs.Calls.{assigned, unknownCount}
 use Rattle.frame.specs.Literals.{literals}
 use Rattle.table.specs.Accepted.{Accepted}
-use Rattle.unknown.specs.Unknowns.{readsUnknown, rowAt}
+use Rattle.row.specs.RowAt.{rowAt}
+use Rattle.unknown.specs.Unknowns.{readsUnknown}
 use Rattle.bits.specs.Readings.{Page}
 
 -- one number if row r is an unknown, else none: what the literals of its page read as

@@ -48,9 +48,7 @@ pub fn extend_rows(
     let mut u = 0;
     let mut r = 0;
     while r < rows {
-        let start = 8 * r;
-        let end = start + 8;
-        let Reading::Read(f) = row::read_row(&table[start..end]) else {
+        let Reading::Read(f) = row::read_at(table, r) else {
             return;
         };
         let x = table::place(f.x, r);

@@ -1,9 +1,10 @@
 // The row reader: eight bytes from the middle of a table, answered by their fields or by refusal 3 or 4.
 ghost use mathlib.Core.Path.{_≡_};
 ghost use mathlib.Core.List.{_∷_, []};
-ghost use Prim.Native.Nat.{_+_, _*_};
+ghost use Prim.Native.Nat.{_+_, _*_, _≤_};
 ghost use lib.ListN.{length};
 ghost use Rattle.sheet.specs.Rows as Rows;
+ghost use Rattle.row.specs.RowAt.{rowAt};
 use sheet::Fields;
 use sheet::Kind;
 use sheet::Named;
@@ -114,4 +115,14 @@ pub fn read_row(row: &[u8]) -> Reading
         return Reading::Read(f);
     }
     Reading::Refused(4)
+}
+
+// Row r of a table, by its part of the table's bytes.
+pub fn read_at(table: &[u8], r: usize) -> Reading
+    requires { ⌜ 8 * r + 8 ≤ length (now table) ⌝ }
+    ensures answer { λ a. ⌜ a ≡ rowAt (now (table .entry)) r ⌝ }
+{
+    let start = 8 * r;
+    let end = start + 8;
+    read_row(&table[start..end])
 }

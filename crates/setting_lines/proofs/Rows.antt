@@ -16,7 +16,8 @@ use Rattle.sheet.specs.declared.Reading.the-variants.{Read, Refused}
 use Rattle.sheet.specs.Rows.{uses, isUnknown, readRow}
 use Rattle.sheet.specs.Values.{denominator, rowVal}
 use Rattle.sheet.specs.Texts.{decimal, signed}
-use Rattle.unknown.specs.Unknowns.{readsUnknown, rowAt}
+use Rattle.row.specs.RowAt.{rowAt}
+use Rattle.unknown.specs.Unknowns.{readsUnknown}
 use Rattle.unknown.proofs.Taken.{bit-most}
 use Rattle.print.proofs.Decimals.{length-decimal, length-signed}
 use Rattle.setting_lines.specs.Settings.{settingLine, settingPiece, settingPieces, unknownsIn}

@@ -6,10 +6,9 @@ ghost use mathlib.Core.Path.{_≡_};
 ghost use mathlib.Core.List.{[]};
 ghost use Prim.Native.Nat.{_≤_, _<_, _+_, _*_};
 ghost use lib.ListN.{length, getD};
-ghost use Rattle.sheet.specs.Rows.{readRow};
 ghost use Rattle.print.specs.Put.{Put};
 ghost use Rattle.print.specs.Pages.{pageFrom, paged};
-ghost use Rattle.setting_lines.specs.Settings.{settingLine, settingPiece, tablePieces, unknownsIn};
+ghost use Rattle.setting_lines.specs.Settings.{settingLine, tablePieces, unknownsIn};
 
 // An unknown's line from place `at` on: row, numerator, denominator.
 fn put_setting_line(out: &mut [u8], at: usize, i: u64, numerator: i64, denominator: u64) -> usize
@@ -19,24 +18,6 @@ fn put_setting_line(out: &mut [u8], at: usize, i: u64, numerator: i64, denominat
     let first = print::put_number(out, at, i, 32);
     let second = print::put_signed(out, first, numerator, 32);
     print::put_number(out, second, denominator, 10)
-}
-
-// The piece of row i, whose eight bytes are lent: its line if it is an unknown, else nothing. A Boolean's denominator is 1.
-fn put_setting(out: &mut [u8], at: usize, row: &[u8], i: usize, numerator: i64) -> usize
-    requires { ⌜ at + 64 ≤ length (now out) ⌝ ∗ ⌜ length (now row) ≡ 8 ⌝ }
-    ensures { λ r. ⌜ Put (settingPiece i (readRow (now (row .entry))) numerator) at (now (out .entry)) (now (out .exit)) r ⌝ }
-{
-    let Reading::Read(f) = row::read_row(row) else {
-        return at;
-    };
-    let kind = f.kind;
-    match kind {
-        Kind::BooleanUnknown => put_setting_line(out, at, i as u64, numerator, 1),
-        Kind::NaturalUnknown | Kind::IntegerUnknown => {
-            put_setting_line(out, at, i as u64, numerator, f.z as u64)
-        }
-        _ => at,
-    }
 }
 
 // How many of a table's first rows are unknowns.
@@ -53,8 +34,9 @@ fn unknowns_before(table: &[u8], rows: usize) -> usize
     n
 }
 
-// The piece of row i of a table, before which there are `used` unknowns.
-fn put_settings_piece(
+// The piece of row i of a table, before which there are `used` unknowns: its line if it is an unknown, else nothing. A Boolean's
+// denominator is 1.
+fn put_setting(
     out: &mut [u8],
     at: usize,
     table: &[u8],
@@ -65,9 +47,18 @@ fn put_settings_piece(
     requires { ⌜ at + 64 ≤ length (now out) ⌝ ∗ ⌜ 8 * i + 8 ≤ length (now table) ⌝ ∗ ⌜ used ≡ unknownsIn i (now table) ⌝ }
     ensures { λ r. ⌜ Put (getD (tablePieces (now (table .entry)) (now (numerators .entry))) i []) at (now (out .entry)) (now (out .exit)) r ⌝ }
 {
+    let Reading::Read(f) = row::read_at(table, i) else {
+        return at;
+    };
     let v = unknown::value_at(numerators, used);
-    let from = 8 * i;
-    put_setting(out, at, &table[from..from + 8], i, v)
+    let row = i as u64;
+    let z = f.z as u64;
+    let kind = f.kind;
+    match kind {
+        Kind::BooleanUnknown => put_setting_line(out, at, row, v, 1),
+        Kind::NaturalUnknown | Kind::IntegerUnknown => put_setting_line(out, at, row, v, z),
+        _ => at,
+    }
 }
 
 // The settings of a table in pages, the first from row 0 on: the lines of the rows that are unknowns, with their numerators in row order.
@@ -89,7 +80,7 @@ pub fn settings_page(table: &[u8], numerators: &[i64], from: usize, out: &mut [u
         if out.len() - size < 64 {
             return Page { next, size };
         }
-        size = put_settings_piece(out, size, table, numerators, next, used);
+        size = put_setting(out, size, table, numerators, next, used);
         used += unknown::asked_at(table, next);
         next += 1;
     }

@@ -5,7 +5,8 @@ ghost use lib.IntN.{pos};
 ghost use lib.ListN.{length, getD};
 ghost use Rattle.whole.specs.Bits.{bit};
 ghost use Rattle.sheet.specs.Rows.{uses, isUnknown};
-ghost use Rattle.unknown.specs.Unknowns.{readsUnknown, rowAt};
+ghost use Rattle.row.specs.RowAt.{rowAt};
+ghost use Rattle.unknown.specs.Unknowns.{readsUnknown};
 use sheet::Kind;
 use sheet::Reading;
 
@@ -24,9 +25,7 @@ pub fn asked_at(table: &[u8], r: usize) -> usize
     requires { ⌜ 8 * r + 8 ≤ length (now table) ⌝ }
     ensures { λ n. ⌜ n ≡ bit (readsUnknown (rowAt (now (table .entry)) r)) ⌝ }
 {
-    let start = 8 * r;
-    let end = start + 8;
-    let Reading::Read(f) = row::read_row(&table[start..end]) else {
+    let Reading::Read(f) = row::read_at(table, r) else {
         return 0;
     };
     let kind = f.kind;

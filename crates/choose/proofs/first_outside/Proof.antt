@@ -1,7 +1,6 @@
 -- `choose::first_outside` meets its contract. Assumes nothing.
 use mathlib.Core.Path.{_≡_, sym, _∙_}
 use Prim.Native.Nat.{_+_, _*_, _-_, _≤_, _<_}
-use native.Mathlib.Nat.{add-sub-cancel-left}
 use native.Mathlib.Omega.{arith}
 use borrow.Author.Needs.{needs}
 use borrow.Author.Tests.{not-true, not-false}
@@ -34,23 +33,8 @@ module _ (q : tie.In-loop Inv-loop μ-loop) where
 loop-holds : tie.Need-loop-holds Inv-loop μ-loop
 loop-holds c = looking-none (c .before .pre)
 
-mul-start : tie.Need-mul-start Inv-loop μ-loop
-mul-start c = let h = small c in search needs
-
-add-end : tie.Need-add-end Inv-loop μ-loop
-add-end c = let h = small c in search needs
-
-sub-read-row : tie.Need-sub-read-row Inv-loop μ-loop
-sub-read-row c = omega arith
-
-part-read-row-start : tie.Need-part-read-row-start Inv-loop μ-loop
-part-read-row-start c = let h = row-ends c in search needs
-
-part-read-row-end : tie.Need-part-read-row-end Inv-loop μ-loop
-part-read-row-end c = let h = row-ends c in search needs
-
-read-row-requires : tie.Need-read-row-requires Inv-loop μ-loop
-read-row-requires c κs = let h = row-ends (c .before) in search needs
+read-at-requires : tie.Need-read-at-requires Inv-loop μ-loop
+read-at-requires c κs = row-ends c
 
 enum-known-f : tie.Need-enum-known-f Inv-loop μ-loop
 enum-known-f c = search needs
@@ -61,9 +45,8 @@ enum-told c = search needs
 returns : tie.Need-returns Inv-loop μ-loop
 returns c =
     let j = c .before .before in
-    let q = j .before .before in
-    let u = rw add-sub-cancel-left at (sym (j .read-row .ensures) ∙ c .enum-told .given .1) in
-    absurd (not-refused (sym (looking-row (q .before .loop .inv) (q .loop-test .taken) .read) ∙ u))
+    let q = j .before in
+    absurd (not-refused (sym (looking-row (q .before .loop .inv) (q .loop-test .taken) .read) ∙ sym (j .read-at .ensures) ∙ c .enum-told .given .1))
 
 value-at-requires : tie.Need-value-at-requires Inv-loop μ-loop
 value-at-requires c κs = search needs
@@ -71,13 +54,12 @@ value-at-requires c κs = search needs
 -- ---- a row was read, and its value
 module _ (w : tie.After-f Inv-loop μ-loop) where
   abbrev turn : tie.In-loop Inv-loop μ-loop
-  turn = w .before .before .before .before
+  turn = w .before .before .before
 
   is-row : looking-row (turn .before .loop .inv) (turn .loop-test .taken) .fields ≡ w .f .given .0 .0
   is-row =
       let j = w .before .before in
-      let u = rw add-sub-cancel-left at (sym (j .read-row .ensures) ∙ w .f .given .1) in
-      same-read (sym (looking-row (turn .before .loop .inv) (turn .loop-test .taken) .read) ∙ u)
+      same-read (sym (looking-row (turn .before .loop .inv) (turn .loop-test .taken) .read) ∙ sym (j .read-at .ensures) ∙ w .f .given .1)
 
 abbrev found : tie.After-in-bits Inv-loop μ-loop → tie.After-f Inv-loop μ-loop
 found t = t .before .before .before
@@ -132,12 +114,7 @@ first-outside-spec =
     Inv-loop
     μ-loop
     loop-holds
-    mul-start
-    add-end
-    sub-read-row
-    part-read-row-start
-    part-read-row-end
-    read-row-requires
+    read-at-requires
     enum-known-f
     enum-told
     returns

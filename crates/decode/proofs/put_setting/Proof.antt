@@ -8,7 +8,8 @@ use borrow.Author.Needs.{needs}
 use lib.ListN.{length, set}
 use Rattle.frame.proofs.Frames.{rest-all, over-none, over-set}
 use Rattle.arithmetic.proofs.Words.{kept}
-use Rattle.unknown.specs.Unknowns.{readsUnknown, rowAt}
+use Rattle.row.specs.RowAt.{rowAt}
+use Rattle.unknown.specs.Unknowns.{readsUnknown}
 use Rattle.unknown.proofs.Taken.{bit-none, bit-some}
 use Rattle.decode.proofs.Rows.{setting-none, setting-some}
 use Rattle.decode.proofs.put_setting.Statement.{statement}

@@ -1,7 +1,6 @@
 -- `extender::extend_rows` meets its contract. Assumes nothing.
 use mathlib.Core.Path.{_≡_, sym, _∙_}
 use Prim.Native.Nat.{ℕ, _+_, _*_, _-_, _≤_, _<_, min}
-use native.Mathlib.Nat.{add-sub-cancel-left}
 use native.Mathlib.Omega.{arith}
 use borrow.Author.Needs.{needs}
 use lib.IntN.{pos}
@@ -43,23 +42,8 @@ module _ (q : tie.In-loop Inv-loop μ-loop) where
   row-ends : 8 * q .before .loop .r + 8 ≤ length (q .before .before .before .before .before .before .before .before .args .table .now)
   row-ends = omega (arith, q .loop-test .taken, all-bytes (q .before .loop .inv .ok .evaluable .table-is))
 
-mul-start : tie.Need-mul-start Inv-loop μ-loop
-mul-start c = let h = small c in search needs
-
-add-end : tie.Need-add-end Inv-loop μ-loop
-add-end c = let h = small c in search needs
-
-sub-read-row : tie.Need-sub-read-row Inv-loop μ-loop
-sub-read-row c = omega arith
-
-part-read-row-start : tie.Need-part-read-row-start Inv-loop μ-loop
-part-read-row-start c = let h = row-ends c in search needs
-
-part-read-row-end : tie.Need-part-read-row-end Inv-loop μ-loop
-part-read-row-end c = let h = row-ends c in search needs
-
-read-row-requires : tie.Need-read-row-requires Inv-loop μ-loop
-read-row-requires c κs = let h = row-ends (c .before) in search needs
+read-at-requires : tie.Need-read-at-requires Inv-loop μ-loop
+read-at-requires c κs = row-ends c
 
 enum-known-f : tie.Need-enum-known-f Inv-loop μ-loop
 enum-known-f c = search needs
@@ -69,16 +53,15 @@ enum-told c = search needs
 
 same-length : tie.Need-same-length Inv-loop μ-loop
 same-length c =
-    let l = c .before .before .before .before .before in
+    let l = c .before .before .before .before in
     let p = l .before .before .before in
     walking-long (l .loop .inv) ∙ put-long (truth-room (p .before .before .before .before .pre)) (p .put .ensures)
 
 returns : tie.Need-returns Inv-loop μ-loop
 returns c =
     let j = c .before .before in
-    let q = j .before .before in
-    let u = rw add-sub-cancel-left at (sym (j .read-row .ensures) ∙ c .enum-told .given .1) in
-    absurd (not-refused (sym (walking-row (q .before .loop .inv) (q .loop-test .taken) .read) ∙ u))
+    let q = j .before in
+    absurd (not-refused (sym (walking-row (q .before .loop .inv) (q .loop-test .taken) .read) ∙ sym (j .read-at .ensures) ∙ c .enum-told .given .1))
 
 place-requires : tie.Need-place-requires Inv-loop μ-loop
 place-requires c κs = tt
@@ -92,13 +75,12 @@ place-requires-3 c κs = tt
 -- ---- a row was read
 module _ (w : tie.After-f Inv-loop μ-loop) where
   abbrev turn : tie.In-loop Inv-loop μ-loop
-  turn = w .before .before .before .before
+  turn = w .before .before .before
 
   is-row : walking-row (turn .before .loop .inv) (turn .loop-test .taken) .fields ≡ w .f .given .0 .0
   is-row =
       let j = w .before .before in
-      let u = rw add-sub-cancel-left at (sym (j .read-row .ensures) ∙ w .f .given .1) in
-      same-read (sym (walking-row (turn .before .loop .inv) (turn .loop-test .taken) .read) ∙ u)
+      same-read (sym (walking-row (turn .before .loop .inv) (turn .loop-test .taken) .read) ∙ sym (j .read-at .ensures) ∙ w .f .given .1)
 
   -- there are a record and a numerator at every place
   there : (i x : ℕ) → i ≡ min x (turn .before .loop .r) → (i < 256) × (i < length (turn .before .before .before .before .before .before .before .before .args .results .now))
@@ -248,12 +230,7 @@ extend-rows-spec =
     μ-loop
     put-requires
     loop-holds
-    mul-start
-    add-end
-    sub-read-row
-    part-read-row-start
-    part-read-row-end
-    read-row-requires
+    read-at-requires
     enum-known-f
     enum-told
     same-length

@@ -51,8 +51,8 @@ returns-2 c =
     let done = left-full (t .loop .inv .1 .page) (rw many (omega arith)) (c .if2 .taken) in
     (done .answer, done .text)
 
-put-settings-piece-requires : tie.Need-put-settings-piece-requires Inv-loop μ-loop
-put-settings-piece-requires c κs =
+put-setting-requires : tie.Need-put-setting-requires Inv-loop μ-loop
+put-setting-requires c κs =
     let t = c .before .before .before in
     (omega arith, (omega arith, t .loop .inv .1 .number))
 
@@ -87,7 +87,7 @@ loop-again c =
       record {
         within = omega arith;
         number = rw (c .asked-at .ensures, i .number) (sym (unknowns-more next table));
-        page = left-step (i .page) (rw many h) (omega arith) short (d .put-settings-piece .ensures);
+        page = left-step (i .page) (rw many h) (omega arith) short (d .put-setting .ensures);
       },
     )
 
@@ -114,7 +114,7 @@ settings-page-spec =
     sub-if2
     same-length
     returns-2
-    put-settings-piece-requires
+    put-setting-requires
     asked-at-requires
     add-used
     add-next
