@@ -42,9 +42,6 @@ module _ {B : Type 0} where
   not-refused n p true e = refused-not e
   not-refused n p false e = (refl, e)
 
-  pub passes-by : (n p : ℕ) (t : Bool) (rest : Outcome B) → t ≡ false → ((refuse n at p if t) >> rest) ≡ rest
-  passes-by n p t rest e = rw e
-
 -- the first that is false is one of them exactly if not every one is true
 pub first-false : (n : ℕ) (bs : List Bool) → ltb (falseAt n bs) (n + length bs) ≡ not (every bs)
 first-false n [] = le-ltb n (n + 0) (omega arith)
