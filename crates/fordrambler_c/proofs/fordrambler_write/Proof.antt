@@ -51,7 +51,8 @@ use Rattle.fordrambler_c.proofs.tell as tell
 use Rattle.fordrambler_c.proofs.tell.Symbol as tell-def
 use Rattle.fordrambler_c.proofs.tell.Symbol.{name as #fordrambler_c·tell}
 use Rattle.fordrambler_c.proofs.tell.Met as tell-thm
-use Rattle.fordrambler_c.proofs.Callee.{R, val, at, Told, tells, Tell, to-tell, goes-tell}
+use Rattle.fordrambler.proofs.Callees.{R, val}
+use Rattle.fordrambler_c.proofs.Callee.{at, Told, tells, Tell, to-tell, goes-tell}
 use Rattle.fordrambler_c.proofs.fordrambler_write.Key.{name as #fordrambler_c·fordrambler_write}
 use Rattle.fordrambler_c.proofs.fordrambler_write as f
 use Rattle.fordrambler_c.proofs.fordrambler_write.Statement as stated
