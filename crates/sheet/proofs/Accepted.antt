@@ -23,6 +23,7 @@ use Rattle.sheet.specs.Rows.{readRow, andRows, rowsOf, uses}
 use Rattle.sheet.specs.Acceptance.{outOfRange, sortsIn, someNotEarlier, someOfWrongSort, Plan, meeting, larger, planBy, stop_if_else_, recordBy, recordAt, judge, Outcome, refused, accepted, Sheet, onward, walk, accept}
 -- named so that the examples are checked before every law: a wrong definition is refused first by what an example computes
 use Rattle.sheet.specs.Examples
+use Rattle.sheet.proofs.Called.{refused-not, same-accepted}
 
 -- what is said of the records of the rows x and y, by their numbers
 abbrev pub sortAt : List Record → ℕ → ℕ
@@ -164,18 +165,15 @@ pub record Walked (table : List ℕ) (earlier : List Record) (so : Counts) (rows
   pub read : sheet .rows ≡ rowsOf (length (sheet .records)) table
 
 not-refused : (b : Bool) (n p : ℕ) (o : Outcome Sheet) {sheet : Sheet} → (if b then refused n p else o) ≡ accepted sheet → (b ≡ false) × (o ≡ accepted sheet)
-not-refused true n p o e = let z : _≡_ {A = ℕ} 0 1 = cc in absurd (omega arith)
+not-refused true n p o e = refused-not e
 not-refused false n p o e = (refl, e)
-
-same-sheet : {a b : Sheet} → accepted a ≡ accepted b → b ≡ a
-same-sheet e = cc
 
 walk-tells : (table : List ℕ) (left : ℕ) (earlier : List Record) (so : Counts) (bytes : List ℕ) (sheet : Sheet)
     → walk table earlier so left bytes ≡ accepted sheet → Walked table earlier so (rowsOf left bytes) left sheet
 unfolding walk rowsOf judge
 walk-tells table zero earlier so bytes sheet e =
     let h = not-refused (eqb (sortAt earlier (length earlier - 1)) 1) _ _ _ e in
-    let same = same-sheet (h .1) in
+    let same = sym (same-accepted (h .1)) in
     record {
       total = so;
       passed = (ap (λ (s : Sheet). s .records) (sym same), refl);

@@ -36,7 +36,7 @@ use denote.Triple.Statement.{Contract, Triple}
 use denote.Triple.Call.{calls-at}
 use denote.Triple.Clauses.{ensured, lasts}
 use denote.Triple.Table.{entered, cited}
-use denote.Triple.Walked.{says, Stays, stay-none-slice, gave-slice, gave-ref, walkOf, goes-none-slice, goes-gave-slice, goes-gave-ref, Walks, ends-at, walked, walk-meets}
+use denote.Triple.Walked.{says, Stays, stay-none-slice, gave-slice, gave-ref, walkOf, goes-none-slice, goes-gave-slice, goes-gave-ref, ends-at, walked, walk-meets}
 use denote.Exit.{yes}
 use Rattle.sheet.specs.declared.Record.{Record}
 use Rattle.sheet.specs.declared.Answer.{Answer}
@@ -51,7 +51,8 @@ use Rattle.fordrambler_c.proofs.tell as tell
 use Rattle.fordrambler_c.proofs.tell.Symbol as tell-def
 use Rattle.fordrambler_c.proofs.tell.Symbol.{name as #fordrambler_c·tell}
 use Rattle.fordrambler_c.proofs.tell.Met as tell-thm
-use Rattle.fordrambler_c.proofs.Callee.{R, val, at, Told, tells, Tell, to-tell, goes-tell}
+use Rattle.fordrambler.proofs.Callees.{R, val}
+use Rattle.fordrambler_c.proofs.Callee.{at, Told, tells, Tell, to-tell, goes-tell}
 use Rattle.fordrambler_c.proofs.fordrambler_write.Key.{name as #fordrambler_c·fordrambler_write}
 use Rattle.fordrambler_c.proofs.fordrambler_write as f
 use Rattle.fordrambler_c.proofs.fordrambler_write.Statement as stated
@@ -144,19 +145,16 @@ module _ {M : Type 1} (𝓤 : URA M) (H : Heap 𝓤) (A : Atoms 𝓤) (W : Given
         move ! (35 ∷ 36 ∷ []) $ free1 ! $ move ! (33 ∷ 34 ∷ []) $ free1 ! $ move ! (31 ∷ 32 ∷ []) $ free1 ! $ move ! (29 ∷ 30 ∷ []) $ free1 ! $ move ! (27 ∷ 28 ∷ []) $ free1 ! $ move ! (25 ∷ 26 ∷ []) $ free1 ! $ move ! (23 ∷ 24 ∷ []) $ free1 ! $ move ! (21 ∷ 22 ∷ []) $ free1 ! $ move ! (19 ∷ 20 ∷ []) $ free1 ! $ move ! (17 ∷ 18 ∷ []) $ free1 ! $ move ! (15 ∷ 16 ∷ []) $ free1 ! $ move ! (13 ∷ 14 ∷ []) $ free1 ! $ move ! (11 ∷ 12 ∷ []) $ free1 ! $ move ! (9 ∷ 10 ∷ []) $ free1 ! $ free0 ! $
         keep ! (0 ∷ 1 ∷ 2 ∷ 4 ∷ 5 ∷ 6 ∷ 7 ∷ 8 ∷ []) $ by ! (exits r (zs .1 .0) (zs .1 .1 .0) (zs .1 .1 .1 .0) m (ps .1 .0) u did told lzr lzm lzl))))))))))))))))))))))))))))
 
-module _ {M : Type 1} (𝓤 : URA M) (H : Heap 𝓤) (A : Atoms 𝓤) (W : Given 𝓤 H A) (mem : Memory → SProp 𝓤) (run : Routine → Fun 𝓤) where
-  fordrambler-write-walks : (C : Calls 𝓤 H) (Λ : Loops 𝓤 H) → FmC 𝓤 H (W .laws) C → Triple 𝓤 (C #fordrambler·write) (Write 𝓤 H A mem run) → Triple 𝓤 (C #fordrambler_c·tell) (Tell 𝓤 H A mem run) → Walks 𝓤 H A f.ended stayed (WpFn 𝓤 H C Λ code.function) (f.clauses 𝓤 H A mem run)
-  fordrambler-write-walks C Λ fm known-call known-tell = walked 𝓤 H A f.ended stayed (f.clauses 𝓤 H A mem run) (WpFn 𝓤 H C Λ code.function)
-      (λ κs. (slice-vals, (slice-vals, (slice-vals, (slice-vals, (ptr-vals, tt))))))
-      (λ κs. (shr-slice-tells (named 0) (κs .0) u8, (mut-slice-tells (named 1) (κs .1 .0) R, (mut-slice-tells (named 2) (κs .1 .1 .0) i32, (mut-slice-tells (named 3) (κs .1 .1 .1 .0) i32, (mut-tells (named 4) (κs .1 .1 .1 .1 .0) u32, tt))))))
-      (λ κs qs bounds a g are. via 𝓤 _ (fst∗ 𝓤 _ (emp 𝓤))
-      (walk 𝓤 H A W mem run (κs .0) (κs .1 .0) (κs .1 .1 .0) (κs .1 .1 .1 .0) (κs .1 .1 .1 .1 .0) (qs .0) (qs .1 .0) (qs .1 .1 .0) (qs .1 .1 .1 .0) (qs .1 .1 .1 .1 .0) (a .0) (a .1 .0) (a .1 .1 .0) (a .1 .1 .1 .0) (a .1 .1 .1 .1 .0) C Λ fm known-call known-tell (are .0 .0 .1) (are .1 .0 .0 .1) (are .1 .1 .0 .0 .1) (are .1 .1 .1 .0 .0 .1)))
-
 fordrambler-write-meets : {M : Type 1} (𝓤 : URA M) (H : Heap 𝓤) (A : Atoms 𝓤) → Given 𝓤 H A → (mem : Memory → SProp 𝓤) (run : Routine → Fun 𝓤) (𝓣 : Tables 𝓤 H) → Triple 𝓤 (𝓣 .C #fordrambler·write) (Write 𝓤 H A mem run) → Triple 𝓤 (𝓣 .C #fordrambler_c·tell) (Tell 𝓤 H A mem run)
     → Meets 𝓤 H A f.signature (WpFn 𝓤 H (𝓣 .C) (𝓣 .Λ) code.function) (f.spec 𝓤 H A mem run)
 fordrambler-write-meets 𝓤 H A W mem run 𝓣 known-call known-tell =
     walk-meets 𝓤 H A f.ended stayed W (goes-none-slice 𝓤 H A W 5 (0 ∷ []) tt (plain (λ _. u8)) yes, (goes-gave-slice 𝓤 H A W 5 1 tt (plain (λ _. R)), (goes-gave-slice 𝓤 H A W 5 2 tt (plain (λ _. i32)), (goes-gave-slice 𝓤 H A W 5 3 tt (plain (λ _. i32)), (goes-gave-ref 𝓤 H A W 5 4 tt (plain (λ _. u32)), tt))))) (f.clauses 𝓤 H A mem run)
-    (WpFn 𝓤 H (𝓣 .C) (𝓣 .Λ) code.function) (WpFn-mono 𝓤 H (W .laws) 𝓣 code.function) (fordrambler-write-walks 𝓤 H A W mem run (𝓣 .C) (𝓣 .Λ) (fmOf 𝓤 H (W .laws) 𝓣) known-call known-tell)
+    (WpFn 𝓤 H (𝓣 .C) (𝓣 .Λ) code.function) (WpFn-mono 𝓤 H (W .laws) 𝓣 code.function)
+    (walked 𝓤 H A f.ended stayed (f.clauses 𝓤 H A mem run) (WpFn 𝓤 H (𝓣 .C) (𝓣 .Λ) code.function)
+    (λ κs. (slice-vals, (slice-vals, (slice-vals, (slice-vals, (ptr-vals, tt))))))
+    (λ κs. (shr-slice-tells (named 0) (κs .0) u8, (mut-slice-tells (named 1) (κs .1 .0) R, (mut-slice-tells (named 2) (κs .1 .1 .0) i32, (mut-slice-tells (named 3) (κs .1 .1 .1 .0) i32, (mut-tells (named 4) (κs .1 .1 .1 .1 .0) u32, tt))))))
+    (λ κs qs bounds a g are. via 𝓤 _ (fst∗ 𝓤 _ (emp 𝓤))
+    (walk 𝓤 H A W mem run (κs .0) (κs .1 .0) (κs .1 .1 .0) (κs .1 .1 .1 .0) (κs .1 .1 .1 .1 .0) (qs .0) (qs .1 .0) (qs .1 .1 .0) (qs .1 .1 .1 .0) (qs .1 .1 .1 .1 .0) (a .0) (a .1 .0) (a .1 .1 .0) (a .1 .1 .1 .0) (a .1 .1 .1 .1 .0) (𝓣 .C) (𝓣 .Λ) (fmOf 𝓤 H (W .laws) 𝓣) known-call known-tell (are .0 .0 .1) (are .1 .0 .0 .1) (are .1 .1 .0 .0 .1) (are .1 .1 .1 .0 .0 .1))))
 
 pub fordrambler-write-spec : {M : Type 1} → stated.statement M
 unfolding code.routine tablesOf
