@@ -5,11 +5,10 @@ use mathlib.Core.List.{List, [], _∷_}
 use Prim.Native.Nat.{ℕ, zero, suc, _*_, _%_, _^_, _≤_, _<_}
 use native.Mathlib.Nat.{one-mul, lt-of-le-of-lt, mod-eq-of-lt}
 use native.Mathlib.Omega.{arith}
-use lib.Dec.{ltb, not-T}
+use lib.Dec.{not-T}
 use lib.IntN.{ℤ, pos, negℤ}
 use lib.Pow.{pow-mono}
 use lib.Signed.{ltZ, leZ, ltZ-yes, leZ-yes, ltZ-no, clashℤ}
-use borrow.Author.Tests.{ltb-false}
 use mir.Syntax.{w64}
 use mir.Val.{SFits}
 use types.Run.{OneOf, miss}
@@ -22,11 +21,8 @@ use Rattle.sheet.proofs.Kind.{the-type}
 use Rattle.sheet.specs.Rows.{Uses, aFlag, aBoolean, aNatural, anInteger, aConstant, theRows, uses}
 use Rattle.sheet.specs.Values.{inBits}
 use Rattle.sheet.specs.Acceptance.{outside, outOfRange}
-use Rattle.sheet.proofs.Tested.{neither, at-least}
+use Rattle.sheet.proofs.Tested.{neither, at-least, at-most}
 use Rattle.declared.specs.Declared.{Declared}
-
-at-most : (least most n : ℕ) → outside least most n ≡ false → n ≤ most
-at-most least most n e = ltb-false most n (neither (ltb n least) (ltb most n) e .1)
 
 pub declared : (u : Uses) (p x z : ℕ) → outOfRange u p x z ≡ false → Declared u p
 declared aFlag p x z e = tt

@@ -9,9 +9,9 @@ use lib.Dec.{eqb, ltb}
 use lib.ListN.{length, length-map}
 use Rattle.sheet.specs.Acceptance.{refused, accepted, Sheet}
 use Rattle.sheet.specs.Calls.{refuse_counting_unless_, falseAt, unknownCount, writing, decodable}
-use Rattle.sheet.proofs.Called.{bound-accepts, not-refused}
+use Rattle.sheet.proofs.Called.{accepted-same, bound-accepts, not-refused, Roomy, writing-tells}
 use Rattle.table.proofs.Answers.{Numbered, bind-numbered, test-numbered}
-use Rattle.write.proofs.Roomy.{Roomy, writing-numbered, writing-tells}
+use Rattle.write.proofs.Roomy.{writing-numbered}
 use Rattle.assign.specs.Model.{areBits}
 
 -- ---- 17, by the first byte that is neither 0 nor 1
@@ -31,9 +31,6 @@ pub record Ready (table : List ℕ) (sheet : Sheet) (mapRoom slotRoom : ℕ) (mo
   pub variables : length model ≡ sheet .counts .variables
   pub fits : unknownCount sheet ≤ valueRoom
 
-same-sheet : {a b : Sheet} → accepted a ≡ accepted b → a ≡ b
-same-sheet e = cc
-
 module _ (table : List ℕ) (records map slots : ℕ) (model : List ℕ) (values : ℕ) where
   pub decodable-numbered : Numbered (decodable table records map slots model values)
   unfolding decodable
@@ -50,7 +47,7 @@ module _ (table : List ℕ) (records map slots : ℕ) (model : List ℕ) (values
       let (same, g) = not-refused 16 (a .counts .variables) (not (eqb (length model) (a .counts .variables))) f in
       let (bits, h) = not-refused 17 (falseAt 0 (areBits model)) (ltb (falseAt 0 (areBits model)) (0 + length (areBits model))) g in
       let (wide, k) = not-refused 18 (unknownCount a) (ltb values (unknownCount a)) h in
-      subst (λ (b : Sheet). Ready table b map slots model values) (same-sheet k)
+      subst (λ (b : Sheet). Ready table b map slots model values) (accepted-same k)
       (record {
         roomy = writing-tells table records map slots a is;
         variables = eqb-true (length model) (a .counts .variables) (not-false (eqb (length model) (a .counts .variables)) same);

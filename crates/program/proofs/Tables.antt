@@ -15,7 +15,7 @@ use Rattle.sheet.specs.Acceptance.{Outcome, refused, accepted, Sheet, accept}
 use Rattle.sheet.specs.Calls.{left}
 use Rattle.sheet.specs.Texts.{beginsLine, bytesIn, tableIn, Lines, lines, linesFrom, readLines, linesAnswer}
 use Rattle.sheet.specs.Programs.{sheetIn}
-use Rattle.sheet.proofs.Called.{bound-accepts, not-refused}
+use Rattle.sheet.proofs.Called.{refused-not, accepted-same, bound-accepts, not-refused}
 use Rattle.lines.proofs.Laws.{eight-bytes}
 use Rattle.lines.proofs.Answers.{answer-read, answer-refused}
 use Rattle.program.specs.Sheets.{sheetOf, sheetRead}
@@ -29,9 +29,6 @@ length-table (suc n) text = length-append (bytesIn 8 text) (tableIn n (drop 17 t
 
 found-here : {n rest : ℕ} {b : Bool} {l : Lines} → lines n rest b ≡ accepted l → l .rows ≡ n
 found-here e = cc
-
-refused-not : {A : Type 0} {n p : ℕ} {l : Lines} → refused n p ≡ accepted l → A
-refused-not e = let z : _≡_ {A = ℕ} 0 1 = cc in absurd (omega arith)
 
 pub few-lines : (more : ℕ) (blank : Bool) (n : ℕ) (text : List ℕ) (l : Lines) → linesFrom more blank n text ≡ accepted l → l .rows ≤ n + more
 unfolding linesFrom
@@ -77,9 +74,6 @@ module _ (blank : Bool) (text table : List ℕ) (h : length table ≡ 2048) wher
 
 -- ---- a sheet that is read is of an accepted table, and its slots fit
 
-same-sheet : {a b : Sheet} → accepted a ≡ accepted b → a ≡ b
-same-sheet e = cc
-
 pub read-tells : (blank : Bool) (text : List ℕ) (sheet : Sheet) → sheetRead blank text ≡ accepted sheet
     → (table : List ℕ) × (accept table ≡ accepted sheet) × (sheet .counts .slots ≤ 16384)
 read-tells blank text sheet e =
@@ -87,5 +81,5 @@ read-tells blank text sheet e =
     let table = tableIn (l .rows) text in
     let (a, is, g) = bound-accepts (accept table) f in
     let (fits, k) = not-refused 13 (a .counts .slots) (ltb 16384 (a .counts .slots)) g in
-    let s = same-sheet k in
+    let s = accepted-same k in
     (table, is ∙ k, subst (λ (b : Sheet). b .counts .slots ≤ 16384) s (ltb-false 16384 (a .counts .slots) fits))

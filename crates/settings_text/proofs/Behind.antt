@@ -11,15 +11,13 @@ use Rattle.sheet.specs.declared.LinesRead.the-variants.{Read, Refused}
 use Rattle.sheet.specs.declared.LinesFound.{LinesFound}
 use Rattle.sheet.specs.Acceptance.{Outcome, refused, accepted}
 use Rattle.sheet.specs.Texts.{beginsLine, tableIn, Lines, lines, linesFrom, readLines, linesAnswer, refusedLine}
+use Rattle.sheet.proofs.Called.{refused-not}
 use Rattle.lines.proofs.Laws.{begins-long}
 use Rattle.lines.proofs.Answers.{answer-read, answer-refused}
 use Rattle.settings_text.specs.Replies.{claimText, wholeText}
 
 rest-here : {n rest : ℕ} {b : Bool} {l : Lines} → lines n rest b ≡ accepted l → l .rest ≡ rest
 rest-here e = cc
-
-refused-not : {A : Type 0} {n p : ℕ} {l : Lines} → refused n p ≡ accepted l → A
-refused-not e = let z : _≡_ {A = ℕ} 0 1 = cc in absurd (omega arith)
 
 -- behind the lines that were found: within the text, and behind at most `more` lines more and an empty one
 abbrev Near : (more n : ℕ) (text : List ℕ) (rest : ℕ) → Type 0

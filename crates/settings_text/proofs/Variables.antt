@@ -20,12 +20,9 @@ use Rattle.sheet.specs.declared.Record.{Record}
 use Rattle.sheet.specs.Rows.{uses}
 use Rattle.sheet.specs.Acceptance.{outside, outOfRange, meeting, bringing, planBy, recordAt, accepted, Sheet, accept}
 use Rattle.sheet.proofs.Accepted.{Passes, Passed, passed-many, accepted-tells}
-use Rattle.sheet.proofs.Tested.{neither}
-use Rattle.sheet.proofs.Called.{bound-accepts, not-refused}
+use Rattle.sheet.proofs.Tested.{neither, at-most}
+use Rattle.sheet.proofs.Called.{accepted-same, bound-accepts, not-refused}
 use Rattle.settings_text.specs.Replies.{Taken}
-
-same-sheet : {a b : Sheet} → accepted a ≡ accepted b → a ≡ b
-same-sheet e = cc
 
 -- ten slots or more a variable
 record Slim (k : Counts) : Type 0 where
@@ -49,9 +46,6 @@ expansion-slim w f = by (eqb f 1)
 
 bringing-slim : (a b : Record) → Slim (bringing a b)
 bringing-slim a b = record { slim = omega (arith, expansion-slim (a .width) (meeting a b / a .denominator) .slim, expansion-slim (b .width) (meeting a b / b .denominator) .slim) }
-
-at-most : (least most n : ℕ) → outside least most n ≡ false → n ≤ most
-at-most least most n e = ltb-false most n (neither (ltb n least) (ltb most n) e .1)
 
 plan-slim : (k : Kind) (p x y z : ℕ) (a b c : Record) → outOfRange (uses k) p x z ≡ false
     → 10 * planBy k p x y z a b c .counts .variables ≤ planBy k p x y z a b c .counts .slots + 320
@@ -94,7 +88,7 @@ pub taken-accepted : {table : List ℕ} {n : ℕ} (t : Taken table n) → (accep
 taken-accepted {table} t =
     let (a, is, g) = bound-accepts (accept table) (t .is) in
     let (fits, k) = not-refused 13 (a .counts .slots) (ltb 16384 (a .counts .slots)) g in
-    let s = same-sheet k in
+    let s = accepted-same k in
     (is ∙ k, subst (λ (b : Sheet). b .counts .slots ≤ 16384) s (ltb-false 16384 (a .counts .slots) fits))
 
 pub taken-few : {table : List ℕ} {n : ℕ} → Taken table n → n < 10000

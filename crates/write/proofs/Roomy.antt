@@ -1,9 +1,8 @@
 -- A table that is written: it is accepted, and the map and the slots have room. Assumes nothing.
-use mathlib.Core.Path.{_≡_, refl, sym, ap, _∙_, subst}
+use mathlib.Core.Path.{_≡_, refl, sym, ap, _∙_}
 use mathlib.Core.List.{List}
-use Prim.Native.Nat.{ℕ, _*_, _≤_}
+use Prim.Native.Nat.{ℕ, _*_}
 use native.Mathlib.Omega.{arith}
-use borrow.Author.Tests.{ltb-false}
 use lib.Dec.{ltb}
 use lib.ListN.{length, take, drop}
 use lib.Seq.{take-at}
@@ -15,20 +14,12 @@ use Rattle.frame.specs.Frame.{front}
 use Rattle.sheet.specs.Acceptance.{Outcome, accepted, Sheet, accept}
 use Rattle.sheet.specs.Calls.{_>>_, refuse_unless_fit_, rowCount, checking, writing, left, sheetMap, sheetSlots}
 use Rattle.sheet.proofs.Accepted.{accepted-tells}
-use Rattle.sheet.proofs.Called.{bound-accepts, not-refused}
+use Rattle.sheet.proofs.Called.{Roomy}
 use Rattle.table.specs.declared.answer.Survey.{Survey}
 use Rattle.table.specs.Surveys.{blank, asSurvey, InBounds}
 use Rattle.table.proofs.Earlier.{limits-at}
 use Rattle.table.proofs.Answers.{Numbered, bind-numbered, test-numbered, checking-numbered, left-accepted}
 use Rattle.writer.specs.Accepted.{Accepted}
-
-same-sheet : {a b : Sheet} → accepted a ≡ accepted b → a ≡ b
-same-sheet e = cc
-
-pub record Roomy (table : List ℕ) (sheet : Sheet) (mapRoom slotRoom : ℕ) : Type 0 where
-  pub is : accept table ≡ accepted sheet
-  pub map : 48 * rowCount sheet ≤ mapRoom
-  pub slots : sheet .counts .slots ≤ slotRoom
 
 module _ (table : List ℕ) (records map slots : ℕ) where
   pub writing-numbered : Numbered (writing table records map slots)
@@ -37,21 +28,6 @@ module _ (table : List ℕ) (records map slots : ℕ) where
       bind-numbered (checking table records) (λ sheet. (refuse 12 unless 48 * rowCount sheet fit map) >> ((refuse 13 unless sheet .counts .slots fit slots) >> accepted sheet)) (checking-numbered table records) (λ sheet.
       test-numbered 12 (48 * rowCount sheet) (ltb map (48 * rowCount sheet)) ((refuse 13 unless sheet .counts .slots fit slots) >> accepted sheet) (omega arith)
       (test-numbered 13 (sheet .counts .slots) (ltb slots (sheet .counts .slots)) (accepted sheet) (omega arith) tt))
-
-  checking-tells : (sheet : Sheet) → checking table records ≡ accepted sheet → accept table ≡ accepted sheet
-  unfolding checking
-  checking-tells sheet e =
-      let (a, is, f) = bound-accepts (accept table) e in
-      is ∙ not-refused 11 (rowCount a) (ltb records (rowCount a)) f .1
-
-  pub writing-tells : (sheet : Sheet) → writing table records map slots ≡ accepted sheet → Roomy table sheet map slots
-  unfolding writing
-  writing-tells sheet e =
-      let (a, is, f) = bound-accepts (checking table records) e in
-      let (long, g) = not-refused 12 (48 * rowCount a) (ltb map (48 * rowCount a)) f in
-      let (wide, h) = not-refused 13 (a .counts .slots) (ltb slots (a .counts .slots)) g in
-      subst (λ (b : Sheet). Roomy table b map slots) (same-sheet h)
-      (record { is = checking-tells a is; map = ltb-false map (48 * rowCount a) long; slots = ltb-false slots (a .counts .slots) wide })
 
 -- the survey of a sheet holds its records
 module _ {s : Survey} (sheet : Sheet) (e : s ≡ asSurvey (accepted sheet)) where

@@ -2,8 +2,9 @@
 use lib.ListN.{length}
 use borrow.Author.Needs.{needs}
 use Rattle.sheet.specs.Calls.{writing, sheetMap, sheetSlots}
+use Rattle.sheet.proofs.Called.{writing-tells}
 use Rattle.table.proofs.Answers.{was-accepted, was-refused, left-refused}
-use Rattle.write.proofs.Roomy.{writing-numbered, writing-tells, accepted-of, map-left, slots-left}
+use Rattle.write.proofs.Roomy.{writing-numbered, accepted-of, map-left, slots-left}
 use Rattle.write.proofs.write_core.Statement.{statement}
 use Rattle.write.proofs.write_core.Tie as tie
 
