@@ -186,7 +186,6 @@ module _ {table : List ℕ} {rows : ℕ} {records : List Record} {map₀ slots�
         right = is-over ib;
         third = is-over ic;
         ranged = passes .ranged;
-        common = rw (ia .record-of, ib .record-of, ic .record-of) (passes .common);
         widest = rw (ia .record-of, ib .record-of, ic .record-of) (passes .widest);
       }
 
