@@ -18,7 +18,7 @@ use Rattle.frame.specs.Written.{written, Room, Wrote}
 use Rattle.frame.proofs.Frames.{over-over, over-none, front-then, length-over, lent}
 
 -- ---- what gates write
-pub written-append : (n : ℕ) (us vs : List Gate) → written n (us ++ vs) ≡ written n us ++ written (n + length us) vs
+written-append : (n : ℕ) (us vs : List Gate) → written n (us ++ vs) ≡ written n us ++ written (n + length us) vs
 unfolding written
 written-append n us vs = rw (clausesFrom-append n us vs) (slotsOf-append (clausesFrom n us) (clausesFrom (n + length us) vs))
 
@@ -34,7 +34,7 @@ abbrev pub size : List Gate → ℕ
 size [] = 0
 size (g ∷ gs) = gateCounts g .slots + size gs
 
-pub written-size : (n : ℕ) (gs : List Gate) → length (written n gs) ≡ size gs
+written-size : (n : ℕ) (gs : List Gate) → length (written n gs) ≡ size gs
 unfolding written
 written-size n [] = refl
 written-size n (g ∷ gs) =
@@ -51,15 +51,15 @@ front-gates m n k us vs l {l′} {part} e f g h =
 
 -- ---- one part of the gates after the other
 -- there is room for the first part
-pub room-first : {at n : ℕ} (us vs : List Gate) {l : List ℤ} → Room at n (us ++ vs) l → Room at n us l
+room-first : {at n : ℕ} (us vs : List Gate) {l : List ℤ} → Room at n (us ++ vs) l → Room at n us l
 room-first {n = n} us vs r = record { place = omega (arith, r .place, length-written n us vs); number = omega (arith, r .number, length-append us vs) }
 
 -- no length changes
-pub wrote-long : {at n : ℕ} {gs : List Gate} {l l′ : List ℤ} {at′ n′ : ℕ} → Room at n gs l → Wrote at n gs l l′ at′ n′ → length l′ ≡ length l
+wrote-long : {at n : ℕ} {gs : List Gate} {l l′ : List ℤ} {at′ n′ : ℕ} → Room at n gs l → Wrote at n gs l l′ at′ n′ → length l′ ≡ length l
 wrote-long {at} {n} {gs} {l} r w = rw (w .slots) (length-over at (written n gs) l (r .place))
 
 -- when it is written, there is room for the second
-pub room-next : {at n : ℕ} (us vs : List Gate) {l l′ : List ℤ} {at′ n′ : ℕ} → Room at n (us ++ vs) l → Wrote at n us l l′ at′ n′ → Room at′ n′ vs l′
+room-next : {at n : ℕ} (us vs : List Gate) {l l′ : List ℤ} {at′ n′ : ℕ} → Room at n (us ++ vs) l → Wrote at n us l l′ at′ n′ → Room at′ n′ vs l′
 room-next {n = n} us vs r w =
     let e = wrote-long (room-first us vs r) w in
     rw (w .number)
@@ -69,7 +69,7 @@ room-next {n = n} us vs r w =
     })
 
 -- both are written
-pub wrote-then : {from first : ℕ} (us vs : List Gate) {before l after : List ℤ} {at n at′ n′ : ℕ} → from ≤ length before
+wrote-then : {from first : ℕ} (us vs : List Gate) {before l after : List ℤ} {at n at′ n′ : ℕ} → from ≤ length before
     → Wrote from first us before l at n → Wrote at n vs l after at′ n′ → Wrote from first (us ++ vs) before after at′ n′
 wrote-then {from} {first} us vs {before} {at = at} h p q =
     let v = rw (p .number) at q in
