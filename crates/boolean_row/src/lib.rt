@@ -50,6 +50,7 @@ fn opposite(a: Operand) -> i32
     gate::negate(literal(a))
 }
 
+// The gate AND(a, b), into the slots from `from` on.
 fn conjunction(slots: &mut [i32], from: usize, first: u32, a: i32, b: i32) -> Truth
     requires { ⌜ IsLit a ⌝ ∗ ⌜ IsLit b ⌝ ∗ ⌜ Room from first (and (unslot a) (unslot b) ∷ []) (now slots) ⌝ }
     ensures { λ r. ⌜ LitMade from first (make (and (unslot a) (unslot b))) (now (slots .entry)) (now (slots .exit)) r ⌝ }
@@ -62,6 +63,7 @@ fn conjunction(slots: &mut [i32], from: usize, first: u32, a: i32, b: i32) -> Tr
     }
 }
 
+// The gate XOR(a, b), likewise.
 fn exclusive(slots: &mut [i32], from: usize, first: u32, a: i32, b: i32) -> Truth
     requires { ⌜ IsLit a ⌝ ∗ ⌜ IsLit b ⌝ ∗ ⌜ Room from first (xor (unslot a) (unslot b) ∷ []) (now slots) ⌝ }
     ensures { λ r. ⌜ LitMade from first (make (xor (unslot a) (unslot b))) (now (slots .entry)) (now (slots .exit)) r ⌝ }

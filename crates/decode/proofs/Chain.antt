@@ -9,9 +9,9 @@ use lib.Dec.{eqb, ltb}
 use lib.ListN.{length, length-map}
 use Rattle.sheet.specs.Acceptance.{refused, accepted, Sheet}
 use Rattle.sheet.specs.Calls.{refuse_counting_unless_, falseAt, unknownCount, writing, decodable}
-use Rattle.sheet.proofs.Called.{same-accepted, bound-accepts, not-refused}
+use Rattle.sheet.proofs.Called.{same-accepted, bound-accepts, not-refused, Roomy, writing-tells}
 use Rattle.table.proofs.Answers.{Numbered, bind-numbered, test-numbered}
-use Rattle.write.proofs.Roomy.{Roomy, writing-numbered, writing-tells}
+use Rattle.write.proofs.Roomy.{writing-numbered}
 use Rattle.assign.specs.Model.{areBits}
 
 -- ---- 17, by the first byte that is neither 0 nor 1

@@ -87,7 +87,7 @@ literals-of [] = refl
 literals-of (l ∷ ls) = rw (unslot-slot l, literals-of ls)
 
 -- numbers that are literals are their slots
-pub slots-back : (l : List ℤ) → AllLit (length l) l → map slot (literals l) ≡ l
+slots-back : (l : List ℤ) → AllLit (length l) l → map slot (literals l) ≡ l
 slots-back [] p = refl
 slots-back (x ∷ l) p = ap₂ _∷_ (slot-unslot x (p 0 (omega arith))) (slots-back l (λ i h. p (suc i) (omega arith)))
 
@@ -100,7 +100,7 @@ module _ (i w : ℕ) (l : List ℤ) (p : AllLit w l) (k : w ≤ length l) where
 
 -- the first w elements of l, from i on: there is one more, or none
 module _ (i w : ℕ) (l : List ℤ) where
-  pub first-of : i < w → w ≤ length l → drop i (take w l) ≡ getD l i (pos 0) ∷ drop (i + 1) (take w l)
+  first-of : i < w → w ≤ length l → drop i (take w l) ≡ getD l i (pos 0) ∷ drop (i + 1) (take w l)
   first-of h k =
       let n : i < length (take w l) = rw (length-take-le w l k) h in
       rw (drop-cons (take w l) i (pos 0) n, getD-take w l i (pos 0) h, add-one)

@@ -1,5 +1,5 @@
--- Gates written one after the other: how many slots they take, what a loop that writes them keeps, and circuits one after the other. Assumes
--- nothing.
+-- Gates written one after the other: how many slots they take, what a loop that writes them keeps, and circuits one after the other.
+-- Assumes nothing.
 use mathlib.Core.Path.{_≡_, refl, sym, ap, _∙_}
 use mathlib.Core.List.{List, [], _∷_, _++_, append-assoc, append-nil}
 use Prim.Native.Nat.{ℕ, suc, _+_, _-_, _≤_, _<_}
@@ -18,7 +18,7 @@ use Rattle.frame.specs.Written.{written, Room, Wrote}
 use Rattle.frame.proofs.Frames.{over-over, over-none, front-then, length-over, lent}
 
 -- ---- what gates write
-pub written-append : (n : ℕ) (us vs : List Gate) → written n (us ++ vs) ≡ written n us ++ written (n + length us) vs
+written-append : (n : ℕ) (us vs : List Gate) → written n (us ++ vs) ≡ written n us ++ written (n + length us) vs
 unfolding written
 written-append n us vs = rw (clausesFrom-append n us vs) (slotsOf-append (clausesFrom n us) (clausesFrom (n + length us) vs))
 
@@ -34,7 +34,7 @@ abbrev pub size : List Gate → ℕ
 size [] = 0
 size (g ∷ gs) = gateCounts g .slots + size gs
 
-pub written-size : (n : ℕ) (gs : List Gate) → length (written n gs) ≡ size gs
+written-size : (n : ℕ) (gs : List Gate) → length (written n gs) ≡ size gs
 unfolding written
 written-size n [] = refl
 written-size n (g ∷ gs) =
@@ -51,15 +51,15 @@ front-gates m n k us vs l {l′} {part} e f g h =
 
 -- ---- one part of the gates after the other
 -- there is room for the first part
-pub room-first : {at n : ℕ} (us vs : List Gate) {l : List ℤ} → Room at n (us ++ vs) l → Room at n us l
+room-first : {at n : ℕ} (us vs : List Gate) {l : List ℤ} → Room at n (us ++ vs) l → Room at n us l
 room-first {n = n} us vs r = record { place = omega (arith, r .place, length-written n us vs); number = omega (arith, r .number, length-append us vs) }
 
--- no length changes
-pub wrote-long : {at n : ℕ} {gs : List Gate} {l l′ : List ℤ} {at′ n′ : ℕ} → Room at n gs l → Wrote at n gs l l′ at′ n′ → length l′ ≡ length l
+-- the slots stay as many
+wrote-long : {at n : ℕ} {gs : List Gate} {l l′ : List ℤ} {at′ n′ : ℕ} → Room at n gs l → Wrote at n gs l l′ at′ n′ → length l′ ≡ length l
 wrote-long {at} {n} {gs} {l} r w = rw (w .slots) (length-over at (written n gs) l (r .place))
 
 -- when it is written, there is room for the second
-pub room-next : {at n : ℕ} (us vs : List Gate) {l l′ : List ℤ} {at′ n′ : ℕ} → Room at n (us ++ vs) l → Wrote at n us l l′ at′ n′ → Room at′ n′ vs l′
+room-next : {at n : ℕ} (us vs : List Gate) {l l′ : List ℤ} {at′ n′ : ℕ} → Room at n (us ++ vs) l → Wrote at n us l l′ at′ n′ → Room at′ n′ vs l′
 room-next {n = n} us vs r w =
     let e = wrote-long (room-first us vs r) w in
     rw (w .number)
@@ -69,7 +69,7 @@ room-next {n = n} us vs r w =
     })
 
 -- both are written
-pub wrote-then : {from first : ℕ} (us vs : List Gate) {before l after : List ℤ} {at n at′ n′ : ℕ} → from ≤ length before
+wrote-then : {from first : ℕ} (us vs : List Gate) {before l after : List ℤ} {at n at′ n′ : ℕ} → from ≤ length before
     → Wrote from first us before l at n → Wrote at n vs l after at′ n′ → Wrote from first (us ++ vs) before after at′ n′
 wrote-then {from} {first} us vs {before} {at = at} h p q =
     let v = rw (p .number) at q in
@@ -94,6 +94,13 @@ wrote-of {n = n} gs e = record { slots = e; place = rw (written-size n gs); numb
 pub room-of : {at n : ℕ} (gs : List Gate) {l : List ℤ} → Room at n gs l → (at + size gs ≤ length l) × (n + length gs < 2147483648)
 room-of {n = n} gs r = (rw (written-size n gs) at (r .place), r .number)
 
+-- what a turn over two arrays knows: they are long enough, and there are slots and numbers for its gates
+pub record Turn (x y : List ℤ) (w : ℕ) (slots : List ℤ) (at n taken made : ℕ) : Type 0 where
+  pub long-x : w ≤ length x
+  pub long-y : w ≤ length y
+  pub place : at + taken ≤ length slots
+  pub number : n + made < 2147483648
+
 -- ---- loops: of the gates `all` some are written, and gs are left
 pub record Left (from first : ℕ) (all : List Gate) (before after : List ℤ) (at next : ℕ) (gs : List Gate) : Type 0 where
   pub done : List Gate
@@ -110,6 +117,9 @@ module _ {from first : ℕ} {all : List Gate} {before l : List ℤ} {at n : ℕ}
   pub left-room : (us vs : List Gate) → gs ≡ us ++ vs → Room at n us l
   left-room us vs e = room-first us vs (rw e at (p .room))
 
+  pub left-turn : (us vs : List Gate) → gs ≡ us ++ vs → {x y : List ℤ} {w : ℕ} → w ≤ length x → w ≤ length y → Turn x y w l at n (size us) (length us)
+  left-turn us vs e hx hy = let (place, number) = room-of us (left-room us vs e) in record { long-x = hx; long-y = hy; place = place; number = number }
+
   -- it is written
   pub left-step : (us vs : List Gate) {l′ : List ℤ} {at′ n′ : ℕ} → gs ≡ us ++ vs → Wrote at n us l l′ at′ n′ → Left from first all before l′ at′ n′ vs
   left-step us vs e w = record {
@@ -123,13 +133,6 @@ module _ {from first : ℕ} {all : List Gate} {before l : List ℤ} {at n : ℕ}
   -- nothing is left
   pub left-none : gs ≡ [] → Wrote from first all before l at n
   left-none e = rw (p .split, e, append-nil) (p .wrote)
-
--- what a turn over two arrays knows: they are long enough, and there are slots and numbers for its gates
-pub record Turn (x y : List ℤ) (w : ℕ) (slots : List ℤ) (at n taken made : ℕ) : Type 0 where
-  pub long-x : w ≤ length x
-  pub long-y : w ≤ length y
-  pub place : at + taken ≤ length slots
-  pub number : n + made < 2147483648
 
 -- ---- a circuit is written, then the one that its answer gives
 module _ {A B : Type 0} {at n : ℕ} {l : List ℤ} (p : Circuit A) (q : A → Circuit B) (r : Room at n (gates n (p >>= q)) l) where

@@ -1,5 +1,4 @@
 -- Laws of the judge of a row. Assumes nothing.
-pub mod Inside
 pub mod Refusals
 pub mod Settled
 pub mod Bringing

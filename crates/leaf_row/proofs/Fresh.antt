@@ -27,7 +27,7 @@ abbrev pub fresh : (n p : ℕ) → List Lit
 fresh n zero = []
 fresh n (suc p) = plus n ∷ fresh (suc n) p
 
-pub fresh-length : (n p : ℕ) → length (fresh n p) ≡ p
+fresh-length : (n p : ℕ) → length (fresh n p) ≡ p
 fresh-length n zero = refl
 fresh-length n (suc p) = ap suc (fresh-length (suc n) p)
 
@@ -46,7 +46,7 @@ unknown-many n zero = refl
 unknown-many n (suc p) = rw (gates-same (suc n) (unknown p) (λ ls. plus n ∷ ls)) (ap suc (unknown-many (suc n) p))
 
 -- they write nothing
-pub unknown-writes : (n p : ℕ) → written n (gates n (unknown p)) ≡ []
+unknown-writes : (n p : ℕ) → written n (gates n (unknown p)) ≡ []
 unfolding written
 unknown-writes n zero = refl
 unknown-writes n (suc p) = rw (gates-same (suc n) (unknown p) (λ ls. plus n ∷ ls)) (unknown-writes (suc n) p)
@@ -72,7 +72,7 @@ fresh-bound n zero = omega arith
 fresh-bound n (suc p) = omega (arith, fresh-bound (suc n) p)
 
 -- literals at the front of an array
-pub front-number : (ls : List Lit) (rest : List ℤ) (n : ℕ) {r : Number} → r .bits ≡ map slot ls ++ rest → length ls ≡ r .width → 1 ≤ r .width → r .width ≤ 48 → bound ls ≤ n → n < 2147483648
+front-number : (ls : List Lit) (rest : List ℤ) (n : ℕ) {r : Number} → r .bits ≡ map slot ls ++ rest → length ls ≡ r .width → 1 ≤ r .width → r .width ≤ 48 → bound ls ≤ n → n < 2147483648
     → (literalsIn r ≡ ls) × IsNumber r
 front-number ls rest n {r} e k some fits low few =
     let first : take (r .width) (map slot ls ++ rest) ≡ map slot ls = take-at (map slot ls) rest (r .width) (length-map ls slot ∙ k) in

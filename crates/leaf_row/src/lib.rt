@@ -30,6 +30,7 @@ fn variables(first: u32, p: usize) -> [i32; 48]
     bits
 }
 
+// An integer takes one variable a bit.
 pub fn integer(from: usize, first: u32, p: u8) -> Made
     requires { ⌜ 1 ≤ p ⌝ ∗ ⌜ p ≤ 48 ⌝ ∗ ⌜ first + p < 2147483648 ⌝ }
     ensures { λ r. ⌜ ((z : ℕ) → RowKnown from first (numberCell z (unknown p)) r) ⌝ }
@@ -44,7 +45,7 @@ pub fn integer(from: usize, first: u32, p: u8) -> Made
     }
 }
 
-// A natural's sign is falsity.
+// So does a natural; its sign is falsity.
 pub fn natural(from: usize, first: u32, p: u8) -> Made
     requires { ⌜ p + 1 ≤ 48 ⌝ ∗ ⌜ first + p < 2147483648 ⌝ }
     ensures { λ r. ⌜ ((z : ℕ) → RowKnown from first (numberCell z (withSign (unknown p))) r) ⌝ }
@@ -61,6 +62,7 @@ pub fn natural(from: usize, first: u32, p: u8) -> Made
     }
 }
 
+// A constant takes none.
 pub fn constant(from: usize, first: u32, x: u16, y: u16) -> Made
     ensures { λ r. ⌜ ((z : ℕ) → RowKnown from first (numberCell z (ret (constant (constantIn x y)))) r) ⌝ }
 {

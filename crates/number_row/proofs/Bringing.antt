@@ -29,10 +29,10 @@ use Rattle.number_row.specs.Bringing.{both, PairMade}
 
 -- the literals of both, then the operation on them
 module _ {A : Type 0} (a b : Cell) (made : List Lit → List Lit → Circuit A) where
-  abbrev pub onBoth : List Lit × List Lit → Circuit A
+  abbrev onBoth : List Lit × List Lit → Circuit A
   onBoth t = made (t .0) (t .1)
 
-  pub brought-both : brought a b made ≡ (both a b >>= onBoth)
+  brought-both : brought a b made ≡ (both a b >>= onBoth)
   brought-both =
       let p = expansion (least a b / a .denominator) (a .literals) in
       let q = expansion (least a b / b .denominator) (b .literals) in
@@ -149,10 +149,10 @@ module _ {A : Type 0} (a b : Operand) (made : List Lit → List Lit → Circuit 
     pub next-room : Room (p .at) (p .next) (gates (p .next) (made (literalsIn (p .x)) (literalsIn (p .y)))) middle
     next-room = bind-next pairs then joined {answer = answer} (m .wrote) (m .literals)
 
-    pub brought-out : out first (brought (cellOf a) (cellOf b) made) ≡ out (p .next) (made (literalsIn (p .x)) (literalsIn (p .y)))
+    brought-out : out first (brought (cellOf a) (cellOf b) made) ≡ out (p .next) (made (literalsIn (p .x)) (literalsIn (p .y)))
     brought-out = ap (out first) (brought-both (cellOf a) (cellOf b) made) ∙ bind-out pairs then joined {answer = answer} (m .wrote) (m .literals)
 
-    pub brought-wrote : {end : List ℤ} {at next : ℕ} → Wrote (p .at) (p .next) (gates (p .next) (made (literalsIn (p .x)) (literalsIn (p .y)))) middle end at next
+    brought-wrote : {end : List ℤ} {at next : ℕ} → Wrote (p .at) (p .next) (gates (p .next) (made (literalsIn (p .x)) (literalsIn (p .y)))) middle end at next
         → Wrote from first (gates first (brought (cellOf a) (cellOf b) made)) before end at next
     brought-wrote w = rw (brought-both (cellOf a) (cellOf b) made) (bind-wrote pairs then joined {answer = answer} (m .wrote) (m .literals) w)
 

@@ -22,7 +22,7 @@ use Rattle.compare.specs.Comparing.{ordering, matching}
 use Rattle.choice.specs.Choosing.{choosing}
 use Rattle.product.specs.Multiplying.{multiplying}
 
-pub literals-length : (x : Number) → x .width ≤ length (x .bits) → length (literalsIn x) ≡ x .width
+literals-length : (x : Number) → x .width ≤ length (x .bits) → length (literalsIn x) ≡ x .width
 literals-length x h = length-map (slotsIn x) unslot ∙ length-take-le (x .width) (x .bits) h
 
 widened : (x : Number) (w : ℕ) (a : List ℤ) → take w a ≡ extended w (slotsIn x) → literals (take w a) ≡ extended w (literalsIn x)

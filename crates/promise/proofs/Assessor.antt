@@ -2,7 +2,7 @@
 use mathlib.Core.Path.{_≡_, refl, sym, _∙_, ap, subst}
 use mathlib.Core.Bool.{Bool, true, false, not, _&&_, and-eq-true-iff, and-true, false≢true}
 use mathlib.Core.List.{List, [], _∷_, map}
-use Prim.Native.Nat.{ℕ, _+_, _*_, _≤_}
+use Prim.Native.Nat.{ℕ, _+_, _≤_}
 use borrow.Author.Tests.{le-ltb, eq-eqb, not-false, eqb-true}
 use lib.Dec.{eqb, ltb}
 use lib.ListN.{length, length-map}
@@ -14,25 +14,12 @@ use Rattle.sheet.specs.declared.Fields.{Fields}
 use Rattle.sheet.specs.Values.{every, rowValues, Within}
 use Rattle.sheet.specs.Acceptance.{Outcome, accepted, Sheet, accept}
 use Rattle.sheet.specs.Steps.{clausesButLast, lastClause, clauses, readRows, settings, extension}
-use Rattle.sheet.specs.Calls.{_>>_, refuse_counting_unless_, falseAt, rowCount, unknownCount, checking, writing, decodable, decoding, assigned, modelOf, constraint}
-use Rattle.sheet.proofs.Called.{bound-accepts, not-refused, first-false, every-clause}
+use Rattle.sheet.specs.Calls.{_>>_, refuse_counting_unless_, falseAt, unknownCount, writing, decodable, decoding, assigned, modelOf, constraint}
+use Rattle.sheet.proofs.Called.{bound-accepts, not-refused, writing-tells, first-false, every-clause}
 use Rattle.promise.specs.Promise.{SettingsMeetTheSheet, NoneLost, NoneExists}
 use Rattle.promise.proofs.Promise.{known, model-tells, model-within, model-last, demand-three}
 
 -- ---- what decoding tells
-
-checking-tells : (table : List ℕ) (r : ℕ) (sheet : Sheet) → checking table r ≡ accepted sheet → accept table ≡ accepted sheet
-unfolding checking
-checking-tells table r sheet e =
-    let (a, accepts, rest) = bound-accepts (accept table) e in
-    accepts ∙ not-refused 11 (rowCount a) (ltb r (rowCount a)) rest .1
-
-pub writing-tells : (table : List ℕ) (r m s : ℕ) (sheet : Sheet) → writing table r m s ≡ accepted sheet → accept table ≡ accepted sheet
-unfolding writing
-writing-tells table r m s sheet e =
-    let (a, checks, rest) = bound-accepts (checking table r) e in
-    let (mapped, rest₁) = not-refused 12 (48 * rowCount a) (ltb m (48 * rowCount a)) rest in
-    checking-tells table r a checks ∙ not-refused 13 (a .counts .slots) (ltb s (a .counts .slots)) rest₁ .1
 
 -- a model that decoding accepts is of the sheet's length and makes every clause true
 pub record Decoded (table model : List ℕ) (sheet : Sheet) : Type 0 where
@@ -49,7 +36,7 @@ decodable-tells table r m s model v sheet e =
     let (binary, rest₂) = not-refused 17 (falseAt 0 bytes) (ltb (falseAt 0 bytes) (0 + length bytes)) rest₁ in
     let same = not-refused 18 (unknownCount a) (ltb v (unknownCount a)) rest₂ .1 in
     let e : a ≡ sheet = cc in
-    record { isSheet = writing-tells table r m s a writes ∙ same; sized = eqb-true (length model) many (not-false (eqb (length model) many) sized) ∙ ap (λ (x : Sheet). x .counts .variables) e }
+    record { isSheet = writing-tells table r m s a writes .is ∙ same; sized = eqb-true (length model) many (not-false (eqb (length model) many) sized) ∙ ap (λ (x : Sheet). x .counts .variables) e }
 
 -- where no clause is false, every clause is true
 module _ {A : Type 0} where
@@ -135,7 +122,7 @@ extension-decoded table r m s v sheet writes room values within =
 
 pub none-lost : NoneLost
 none-lost table r m s v sheet writes room values within holds =
-    let e = writing-tells table r m s sheet writes in
+    let e = writing-tells table r m s sheet writes .is in
     let x = extension (sheet .rows) values in
     let truths = map (clauseTrue x) (clauses (sheet .rows)) in
     let t₁₉ : ltb (falseAt 1 truths) (1 + length truths) ≡ false = first-false 1 truths ∙ ap not (every-clause x (clauses (sheet .rows)) ∙ extension-meets table sheet e values within holds) in

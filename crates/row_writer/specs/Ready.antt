@@ -5,23 +5,19 @@ use Prim.Native.Nat.{_≤_}
 use Rattle.circuit.specs.Circuits.{Circuit}
 use Rattle.sheet.specs.declared.Fields.{Fields}
 use Rattle.sheet.specs.Rows.{uses}
-use Rattle.sheet.specs.Acceptance.{outOfRange, Plan, planBy}
+use Rattle.sheet.specs.Acceptance.{outOfRange, planBy}
 use Rattle.sheet.specs.Steps.{Cell, stepsBy}
 use Rattle.literal_map.specs.declared.Operand.{Operand}
 use Rattle.literal_map.specs.Cells.{cellOf}
 use Rattle.number_row.specs.Over.{IsOver}
 
--- the row's circuit, and its plan
+-- the row's circuit
 abbrev pub stepsOver : Fields → (a b c : Operand) → Circuit Cell
 stepsOver f a b c = stepsBy (f .kind) (f .p) (f .x) (f .y) (f .z) (cellOf a) (cellOf b) (cellOf c)
-
-abbrev pub planOver : Fields → (a b c : Operand) → Plan
-planOver f a b c = planBy (f .kind) (f .p) (f .x) (f .y) (f .z) (a .record) (b .record) (c .record)
 
 pub record Ready (f : Fields) (a b c : Operand) : Type 0 where
   pub left : IsOver a
   pub right : IsOver b
   pub third : IsOver c
   pub ranged : outOfRange (uses (f .kind)) (f .p) (f .x) (f .z) ≡ false
-  pub common : planOver f a b c .common ≤ 4096
-  pub widest : planOver f a b c .widest ≤ 48
+  pub widest : planBy (f .kind) (f .p) (f .x) (f .y) (f .z) (a .record) (b .record) (c .record) .widest ≤ 48

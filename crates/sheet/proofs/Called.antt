@@ -2,16 +2,16 @@
 use mathlib.Core.Path.{_≡_, refl, sym, _∙_, ap, subst}
 use mathlib.Core.Bool.{Bool, true, false, not, _&&_}
 use mathlib.Core.List.{List, [], _∷_, map}
-use Prim.Native.Nat.{ℕ, suc, _+_}
+use Prim.Native.Nat.{ℕ, suc, _+_, _*_, _≤_}
 use native.Mathlib.Omega.{arith}
-use borrow.Author.Tests.{eqb-true, lt-ltb, le-ltb, not-false}
+use borrow.Author.Tests.{eqb-true, ltb-false, lt-ltb, le-ltb, not-false}
 use lib.Dec.{eqb, ltb}
 use lib.ListN.{length}
 use lib.IntN.{ℤ}
 use Rattle.circuit.specs.Literals.{Assignment, Clause, clauseTrue, allTrue}
 use Rattle.sheet.specs.Values.{unknowns, eachInBits, every, Within}
 use Rattle.sheet.specs.Acceptance.{Outcome, refused, accepted, Sheet, accept}
-use Rattle.sheet.specs.Calls.{_>>=_, _>>_, _giving_, refuse_at_if_, falseAt, unknownCount, choosing}
+use Rattle.sheet.specs.Calls.{_>>=_, _>>_, _giving_, refuse_at_if_, falseAt, rowCount, unknownCount, checking, writing, choosing}
 
 module _ {A : Type 0} where
   pub refused-not : {n p : ℕ} {a : A} {X : Type 0} → refused n p ≡ accepted a → X
@@ -42,6 +42,27 @@ module _ {B : Type 0} where
   not-refused n p true e = refused-not e
   not-refused n p false e = (refl, e)
 
+-- a table that is checked or written is accepted, and one that is written has room
+pub checking-tells : (table : List ℕ) (records : ℕ) {sheet : Sheet} → checking table records ≡ accepted sheet → accept table ≡ accepted sheet
+unfolding checking
+checking-tells table records e =
+    let (a, accepts, rest) = bound-accepts (accept table) e in
+    accepts ∙ not-refused 11 (rowCount a) (ltb records (rowCount a)) rest .1
+
+pub record Roomy (table : List ℕ) (sheet : Sheet) (mapRoom slotRoom : ℕ) : Type 0 where
+  pub is : accept table ≡ accepted sheet
+  pub map : 48 * rowCount sheet ≤ mapRoom
+  pub slots : sheet .counts .slots ≤ slotRoom
+
+pub writing-tells : (table : List ℕ) (records map slots : ℕ) (sheet : Sheet) → writing table records map slots ≡ accepted sheet → Roomy table sheet map slots
+unfolding writing
+writing-tells table records map slots sheet e =
+    let (a, checks, f) = bound-accepts (checking table records) e in
+    let (long, g) = not-refused 12 (48 * rowCount a) (ltb map (48 * rowCount a)) f in
+    let (wide, h) = not-refused 13 (a .counts .slots) (ltb slots (a .counts .slots)) g in
+    subst (λ (b : Sheet). Roomy table b map slots) (same-accepted h)
+    (record { is = checking-tells table records checks; map = ltb-false map (48 * rowCount a) long; slots = ltb-false slots (a .counts .slots) wide })
+
 -- the first that is false is one of them exactly if not every one is true
 pub first-false : (n : ℕ) (bs : List Bool) → ltb (falseAt n bs) (n + length bs) ≡ not (every bs)
 first-false n [] = le-ltb n (n + 0) (omega arith)
@@ -62,5 +83,4 @@ choosing-tells table values {sheet} e =
     let bs = eachInBits (unknowns (a .rows)) values in
     let (inside, same) = not-refused 15 (falseAt 0 bs) (ltb (falseAt 0 bs) (0 + length bs)) rest₁ in
     let all : every bs ≡ true = not-false (every bs) (sym (first-false 0 bs) ∙ inside) in
-    let s : a ≡ sheet = cc in
-    (accepts ∙ same, subst (λ (x : Sheet). Within (x .rows) values) s (record { number = eqb-true (length values) many (not-false (eqb (length values) many) number); inside = all }))
+    (accepts ∙ same, subst (λ (x : Sheet). Within (x .rows) values) (same-accepted same) (record { number = eqb-true (length values) many (not-false (eqb (length values) many) number); inside = all }))

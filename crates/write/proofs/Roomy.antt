@@ -1,9 +1,8 @@
 -- A table that is written: it is accepted, and the map and the slots have room. Assumes nothing.
-use mathlib.Core.Path.{_≡_, sym, ap, _∙_, subst}
+use mathlib.Core.Path.{_≡_, sym, ap, _∙_}
 use mathlib.Core.List.{List}
-use Prim.Native.Nat.{ℕ, _*_, _≤_}
+use Prim.Native.Nat.{ℕ, _*_}
 use native.Mathlib.Omega.{arith}
-use borrow.Author.Tests.{ltb-false}
 use lib.Dec.{ltb}
 use lib.IntN.{ℤ}
 use Rattle.sheet.specs.declared.Fields.{Fields}
@@ -11,9 +10,9 @@ use Rattle.sheet.specs.declared.Record.{Record}
 use Rattle.sheet.specs.Rows.{rowsOf}
 use Rattle.sheet.specs.Steps.{slotsFor, mapFor}
 use Rattle.frame.specs.Frame.{front}
-use Rattle.sheet.specs.Acceptance.{Outcome, accepted, Sheet, accept}
+use Rattle.sheet.specs.Acceptance.{Outcome, accepted, Sheet}
 use Rattle.sheet.specs.Calls.{_>>_, refuse_unless_fit_, rowCount, checking, writing, left, sheetMap, sheetSlots}
-use Rattle.sheet.proofs.Called.{same-accepted, bound-accepts, not-refused}
+use Rattle.sheet.proofs.Called.{Roomy}
 use Rattle.table.specs.declared.answer.Survey.{Survey}
 use Rattle.table.specs.Surveys.{asSurvey, InBounds}
 use Rattle.table.specs.Accepted.{Accepted}
@@ -22,11 +21,6 @@ use Rattle.table.proofs.Answers.{Numbered, bind-numbered, test-numbered, checki
 use Rattle.table.proofs.Rowwise.{known, all-read}
 use Rattle.writer.specs.Writable.{Writable}
 
-pub record Roomy (table : List ℕ) (sheet : Sheet) (mapRoom slotRoom : ℕ) : Type 0 where
-  pub is : accept table ≡ accepted sheet
-  pub map : 48 * rowCount sheet ≤ mapRoom
-  pub slots : sheet .counts .slots ≤ slotRoom
-
 module _ (table : List ℕ) (records map slots : ℕ) where
   pub writing-numbered : Numbered (writing table records map slots)
   unfolding writing
@@ -34,21 +28,6 @@ module _ (table : List ℕ) (records map slots : ℕ) where
       bind-numbered (checking table records) (λ sheet. (refuse 12 unless 48 * rowCount sheet fit map) >> ((refuse 13 unless sheet .counts .slots fit slots) >> accepted sheet)) (checking-numbered table records) (λ sheet.
       test-numbered 12 (48 * rowCount sheet) (ltb map (48 * rowCount sheet)) ((refuse 13 unless sheet .counts .slots fit slots) >> accepted sheet) (omega arith)
       (test-numbered 13 (sheet .counts .slots) (ltb slots (sheet .counts .slots)) (accepted sheet) (omega arith) tt))
-
-  checking-tells : (sheet : Sheet) → checking table records ≡ accepted sheet → accept table ≡ accepted sheet
-  unfolding checking
-  checking-tells sheet e =
-      let (a, is, f) = bound-accepts (accept table) e in
-      is ∙ not-refused 11 (rowCount a) (ltb records (rowCount a)) f .1
-
-  pub writing-tells : (sheet : Sheet) → writing table records map slots ≡ accepted sheet → Roomy table sheet map slots
-  unfolding writing
-  writing-tells sheet e =
-      let (a, is, f) = bound-accepts (checking table records) e in
-      let (long, g) = not-refused 12 (48 * rowCount a) (ltb map (48 * rowCount a)) f in
-      let (wide, h) = not-refused 13 (a .counts .slots) (ltb slots (a .counts .slots)) g in
-      subst (λ (b : Sheet). Roomy table b map slots) (same-accepted h)
-      (record { is = checking-tells a is; map = ltb-false map (48 * rowCount a) long; slots = ltb-false slots (a .counts .slots) wide })
 
 pub writable : {table : List ℕ} {sheet : Sheet} {s : Survey} {map slots : ℕ} → Roomy table sheet map slots → s ≡ asSurvey (accepted sheet) → InBounds s → Writable table (s .rows) (s .records) map slots
 writable {sheet = sheet} r e b =

@@ -1,20 +1,21 @@
--- The first and the last unit around the slots of an accepted table's rows: there is room for both, and the last is read from the map.
+-- The first and the last unit around what an accepted table's rows write: the three make its slots, and the last is read from the map.
 -- Assumes nothing.
 use mathlib.Core.Path.{_≡_, refl, sym, ap, _∙_}
 use mathlib.Core.List.{List, [], _∷_, _++_}
-use Prim.Native.Nat.{ℕ, _+_, _*_, _-_, _≤_, _<_}
+use Prim.Native.Nat.{ℕ, _+_, _*_, _-_, _<_}
 use native.Mathlib.Nat.{add-zero}
 use native.Mathlib.Omega.{arith}
 use lib.IntN.{ℤ, pos}
-use lib.ListN.{length, getD, drop, length-append}
+use lib.ListN.{length, getD, drop}
 use lib.Seq.{getD-take, getD-drop}
 use Rattle.circuit.specs.Literals.{Lit, falsity, slot}
-use Rattle.circuit.specs.Circuits.{gates, out}
+use Rattle.circuit.specs.Circuits.{gates, out, clausesFrom}
 use Rattle.circuit.specs.Counting.{theFirst}
+use Rattle.circuit.proofs.Lengths.{slotsOf-append}
 use Rattle.sheet.specs.declared.Fields.{Fields}
 use Rattle.sheet.specs.declared.Record.{Record}
 use Rattle.sheet.specs.Rows.{rowsOf}
-use Rattle.sheet.specs.Steps.{Cell, lit, cellAt, page, pages, stepsFrom, steps, cells, slotsFor, mapFor}
+use Rattle.sheet.specs.Steps.{Cell, lit, cellAt, page, pages, stepsFrom, steps, cells, clausesButLast, lastClause, clauses, slotsFor, mapFor}
 use Rattle.sheet.proofs.Accepted.{accepted-tells}
 use Rattle.sheet.proofs.Counted.{cell-at, cells-many}
 use Rattle.sheet.proofs.Pages.{Narrow, narrow-cells, pages-at}
@@ -23,8 +24,28 @@ use Rattle.promise.proofs.Counts.{counted, passed-narrow}
 use Rattle.table.proofs.Rowwise.{all-read}
 use Rattle.frame.specs.Frame.{front, over}
 use Rattle.frame.specs.Written.{written}
+use Rattle.frame.proofs.Frames.{front-then}
 use Rattle.writer.specs.Writable.{Writable, rowSlots}
-use Rattle.writer.proofs.Table.{lastLiteral, table-slots, table-written}
+
+abbrev pub lastLiteral : List Fields → ℤ
+lastLiteral rows = slot (lit (cellAt (out 1 (stepsFrom [] rows)) (length rows - 1)))
+
+-- the slots, part by part
+table-slots : (rows : List Fields) → slotsFor rows ≡ (pos 1 ∷ pos 0 ∷ written 1 (gates 1 (stepsFrom [] rows))) ++ lastLiteral rows ∷ pos 0 ∷ []
+unfolding slotsFor clauses clausesButLast lastClause cells steps written
+table-slots rows = slotsOf-append (clausesFrom 0 (gates 0 (steps rows))) (lastClause rows ∷ [])
+
+pub units-written : (rows : ℕ) (table : List ℕ) (slots₀ : List ℤ) {s₁ s₂ s₃ : List ℤ} {at : ℕ}
+    → s₁ ≡ front (pos 1 ∷ pos 0 ∷ []) slots₀ → s₂ ≡ over 2 (rowSlots rows table) s₁ → at ≡ 2 + length (rowSlots rows table)
+    → s₃ ≡ over at (lastLiteral (rowsOf rows table) ∷ pos 0 ∷ []) s₂ → s₃ ≡ front (slotsFor (rowsOf rows table)) slots₀
+unfolding rowSlots
+units-written rows table slots₀ {at = at} e f g h =
+    let unit = pos 1 ∷ pos 0 ∷ [] in
+    let ws = rowSlots rows table in
+    let last = lastLiteral (rowsOf rows table) ∷ pos 0 ∷ [] in
+    h ∙ ap (over at last) (f ∙ ap (over 2 ws) e ∙ front-then 2 unit ws slots₀ refl)
+    ∙ front-then at (unit ++ ws) last slots₀ (omega (arith, g))
+    ∙ ap (λ (v : List ℤ). front v slots₀) (sym (table-slots (rowsOf rows table)))
 
 -- a page begins with the row's first literal
 page-head : (ls : List Lit) → 0 < length ls → getD (page ls) 0 (pos 0) ≡ slot (getD ls 0 falsity)
@@ -48,15 +69,6 @@ module _ (table : List ℕ) (rows : ℕ) (records : List Record) (map₀ slots�
   pub some-rows : 0 < rows
   some-rows = omega (arith, accepted-tells table (ok .table-is .sheet) (ok .table-is .is) .some, ok .table-is .many)
 
-  -- room for all: the first unit, the rows and the last unit
-  pub units-fit : 2 + length (rowSlots rows table) + 2 ≤ length slots₀
-  unfolding rowSlots
-  units-fit =
-      let k = counted table (ok .table-is .sheet) (ok .table-is .is) in
-      let e = ap (λ (fs : List Fields). length (slotsFor fs)) known-rows in
-      let f = ap length (table-slots (rowsOf rows table)) ∙ length-append (pos 1 ∷ pos 0 ∷ written 1 (gates 1 (stepsFrom [] (rowsOf rows table)))) (lastLiteral (rowsOf rows table) ∷ pos 0 ∷ []) in
-      omega (arith, k .slot, ok .slots)
-
   last-in : {m : List ℤ} → m ≡ front (mapFor (ok .table-is .sheet .rows)) map₀ → getD m (48 * (length (ok .table-is .sheet .rows) - 1)) (pos 0) ≡ lastLiteral (ok .table-is .sheet .rows)
   unfolding mapFor cells steps front
   last-in e =
@@ -75,9 +87,3 @@ module _ (table : List ℕ) (rows : ℕ) (records : List Record) (map₀ slots�
       let r = known-rows in
       let n : rows ≡ length (ok .table-is .sheet .rows) = omega (arith, ok .table-is .many, counted table (ok .table-is .sheet) (ok .table-is .is) .records) in
       ap (λ (i : ℕ). getD m (48 * (i - 1)) (pos 0)) n ∙ last-in (e ∙ ap (λ (fs : List Fields). front (mapFor fs) map₀) (sym r)) ∙ ap lastLiteral r
-
-  -- the slots of the whole table
-  pub units-written : {s₁ s₂ s₃ : List ℤ} {at : ℕ} → s₁ ≡ front (pos 1 ∷ pos 0 ∷ []) slots₀ → s₂ ≡ over 2 (rowSlots rows table) s₁ → at ≡ 2 + length (rowSlots rows table)
-      → s₃ ≡ over at (lastLiteral (rowsOf rows table) ∷ pos 0 ∷ []) s₂ → s₃ ≡ front (slotsFor (rowsOf rows table)) slots₀
-  unfolding rowSlots
-  units-written e f g h = table-written (rowsOf rows table) slots₀ (omega (arith, units-fit)) e (record { slots = f; place = g; number = refl }) h

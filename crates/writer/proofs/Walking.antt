@@ -17,7 +17,7 @@ use Rattle.sheet.specs.declared.Fields.{Fields}
 use Rattle.sheet.specs.declared.Record.{Record}
 use Rattle.sheet.specs.Rows.{rowsOf}
 use Rattle.sheet.specs.Acceptance.{missing, recordAt}
-use Rattle.sheet.specs.Steps.{cell, cellAt, page, rowSteps, stepsFrom, steps, mapFor}
+use Rattle.sheet.specs.Steps.{cell, cellAt, page, rowSteps, stepsFrom, steps, cells, mapFor}
 use Rattle.sheet.proofs.Accepted.{Passes}
 use Rattle.sheet.proofs.Walked.{Ahead, Row, ahead-row}
 use Rattle.sheet.proofs.Counted.{cell-at}
@@ -38,7 +38,6 @@ use Rattle.table.proofs.Earlier.{zeros}
 use Rattle.table.proofs.Rowwise.{tells, all-read, all-ahead, record-at, none-left}
 use Rattle.writer.specs.Writable.{Writable, rowSlots}
 use Rattle.writer.proofs.Walk.{Walk, walk-all, walk-cell, walk-room, walk-next, walk-end}
-use Rattle.writer.proofs.Table.{table-map}
 
 -- r rows are written
 pub record Walking (table : List ℕ) (rows : ℕ) (records : List Record) (map₀ slots₀ map slots : List ℤ) (at n r : ℕ) : Type 0 where
@@ -49,24 +48,35 @@ pub record Walking (table : List ℕ) (rows : ℕ) (records : List Record) (map�
   pub ahead : Ahead table (ok .table-is .sheet .records) total rows r rest
   pub walk : Walk 2 1 (rowsOf rows table) map₀ slots₀ map slots at n r (take r (ok .table-is .sheet .records)) rest
 
-room-for : (fs all : List Fields) (l : List ℤ) {v s : ℕ} → fs ≡ all → length (gates 0 (steps fs)) ≡ v → length (slotsOf (clausesFrom 0 (gates 0 (steps fs)))) ≡ s → v < 2147483648 → s ≤ length l
-    → Room 2 1 (gates 1 (stepsFrom [] all)) l
+-- what the rows make, when all they make is counted
+rows-make : (fs all : List Fields) {v s : ℕ} → fs ≡ all → length (gates 0 (steps fs)) ≡ v → length (slotsOf (clausesFrom 0 (gates 0 (steps fs)))) ≡ s
+    → (1 + length (gates 1 (stepsFrom [] all)) ≡ v) × (2 + length (written 1 (gates 1 (stepsFrom [] all))) ≡ s)
 unfolding steps written
-room-for fs all l e p q few room =
+rows-make fs all e p q =
     let p′ = rw e at p in
     let q′ = rw e at q in
-    record { place = omega (arith, q′); number = omega (arith, p′) }
+    (omega (arith, p′), omega (arith, q′))
 
 -- there is room for all rows
 module _ (table : List ℕ) (rows : ℕ) (records : List Record) (map₀ slots₀ : List ℤ) (ok : Writable table rows records (length map₀) (length slots₀)) where
   abbrev all : List Fields
   all = rowsOf rows table
 
-  room : Room 2 1 (gates 1 (stepsFrom [] all)) slots₀
-  room =
+  made : (1 + length (gates 1 (stepsFrom [] all)) ≡ ok .table-is .sheet .counts .variables) × (2 + length (rowSlots rows table) + 2 ≡ ok .table-is .sheet .counts .slots)
+  unfolding rowSlots
+  made =
       let a = tells (ok .table-is) in
       let w = whole-table (ok .table-is .sheet) (a .total) (a .passed) in
-      room-for (ok .table-is .sheet .rows) all slots₀ (all-read (ok .table-is)) (w .variables) (w .slot) (omega (arith, ap (λ (k : Counts). k .variables) (a .counted), ok .few)) (omega (arith, ap (λ (k : Counts). k .slots) (a .counted), ok .slots))
+      let (variables, slots) = rows-make (ok .table-is .sheet .rows) all (all-read (ok .table-is)) (w .variables) (w .slot) in
+      (omega (arith, variables, ap (λ (k : Counts). k .variables) (a .counted)), omega (arith, slots, ap (λ (k : Counts). k .slots) (a .counted)))
+
+  -- with the first unit before them and the last behind
+  pub rows-fit : 2 + length (rowSlots rows table) + 2 ≤ length slots₀
+  rows-fit = omega (arith, made, ok .slots)
+
+  room : Room 2 1 (gates 1 (stepsFrom [] all)) slots₀
+  unfolding rowSlots
+  room = record { place = omega (arith, rows-fit); number = omega (arith, made, ok .few) }
 
   pub walking-none : Walking table rows records map₀ slots₀ map₀ slots₀ 2 1 0
   walking-none = record { ok = ok; some = omega arith; rest = all; total = tells (ok .table-is) .total; ahead = all-ahead (ok .table-is); walk = walk-all room }
@@ -74,11 +84,11 @@ module _ (table : List ℕ) (rows : ℕ) (records : List Record) (map₀ slots�
 module _ {table : List ℕ} {rows : ℕ} {records : List Record} {map₀ slots₀ map slots : List ℤ} {at n r : ℕ} (p : Walking table rows records map₀ slots₀ map slots at n r) where
   -- all rows are written
   pub walking-end : rows ≤ r → (slots ≡ over 2 (rowSlots rows table) slots₀) × ((at ≡ 2 + length (rowSlots rows table)) × (map ≡ front (mapFor (rowsOf rows table)) map₀))
-  unfolding rowSlots
+  unfolding rowSlots mapFor cells steps
   walking-end h =
       let e = none-left (p .rest) (omega (arith, p .ahead .left)) in
       let (w, m) = walk-end (subst (λ (fs : List Fields). Walk 2 1 (rowsOf rows table) map₀ slots₀ map slots at n r (take r (p .ok .table-is .sheet .records)) fs) e (p .walk)) in
-      (w .slots, (w .place, rw (table-map (rowsOf rows table)) m))
+      (w .slots, (w .place, m))
 
   -- what does not change
   pub walking-long : (length map ≡ length map₀) × (length slots ≡ length slots₀)
@@ -166,7 +176,6 @@ module _ {table : List ℕ} {rows : ℕ} {records : List Record} {map₀ slots�
         right = is-over ib;
         third = is-over ic;
         ranged = passes .ranged;
-        common = rw (ia .record-of, ib .record-of, ic .record-of) (passes .common);
         widest = rw (ia .record-of, ib .record-of, ic .record-of) (passes .widest);
       }
 

@@ -14,7 +14,7 @@ use Rattle.frame.specs.Literals.{unslot, literalAt, IsLit, AllLit}
 use Rattle.frame.specs.Written.{written}
 use Rattle.frame.proofs.Frames.{lent}
 use Rattle.frame.proofs.Literals.{answered, held-lit, lit-held, literals-put}
-use Rattle.frame.proofs.Writing.{left-room, room-of, wrote-of, Turn}
+use Rattle.frame.proofs.Writing.{wrote-of, Turn, left-turn}
 use Rattle.frame.proofs.Loops.{Filling, filling-all, filling-turn, filling-end}
 use Rattle.adder.specs.Adding.{bitGates, adding}
 use Rattle.adder.proofs.Turns.{gates-at, out-at, gates-end, out-end}
@@ -56,8 +56,7 @@ known c =
     let hx : w ≤ length x = omega arith in
     let hy : w ≤ length y = omega arith in
     let us = bitGates n (literalAt x i) (literalAt y i) k in
-    let q = room-of us (left-room (t .loop .inv .filling .left) us _ (gates-at i w x y k n (c .loop-test .taken) hx hy)) in
-    record { long-x = hx; long-y = hy; place = q .0; number = q .1 }
+    left-turn (t .loop .inv .filling .left) us _ (gates-at i w x y k n (c .loop-test .taken) hx hy) hx hy
 
 mul-a : tie.Need-mul-a Inv-loop μ-loop
 mul-a c = omega arith

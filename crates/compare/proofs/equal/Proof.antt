@@ -14,7 +14,7 @@ use Rattle.frame.specs.Literals.{unslot, literalAt, between, IsLit}
 use Rattle.frame.specs.Written.{written}
 use Rattle.frame.proofs.Frames.{lent}
 use Rattle.frame.proofs.Literals.{answered, held-lit, lit-held, slot-unslot}
-use Rattle.frame.proofs.Writing.{left-room, room-of, wrote-of, Turn}
+use Rattle.frame.proofs.Writing.{wrote-of, Turn, left-turn}
 use Rattle.frame.proofs.Loops.{Going, going-all, going-turn, going-end}
 use Rattle.compare.specs.Comparing.{matchGates, matching}
 use Rattle.compare.proofs.Turns.{equal-at, equal-out, equal-end, equal-lit}
@@ -56,8 +56,7 @@ known c =
     let hx : w ≤ length x = omega arith in
     let hy : w ≤ length y = omega arith in
     let us = matchGates n (literalAt x i) (literalAt y i) k in
-    let q = room-of us (left-room (t .loop .inv .going .left) us _ (equal-at i w x y n (c .loop-test .taken) hx hy k)) in
-    record { long-x = hx; long-y = hy; place = q .0; number = q .1 }
+    left-turn (t .loop .inv .going .left) us _ (equal-at i w x y n (c .loop-test .taken) hx hy k) hx hy
 
 mul-a : tie.Need-mul-a Inv-loop μ-loop
 mul-a c = omega arith

@@ -15,7 +15,7 @@ use Rattle.frame.specs.Literals.{unslot, literalAt, between, IsLit}
 use Rattle.frame.specs.Written.{written}
 use Rattle.frame.proofs.Frames.{lent}
 use Rattle.frame.proofs.Literals.{answered, held-lit, lit-held}
-use Rattle.frame.proofs.Writing.{left-room, room-of, wrote-of, Turn}
+use Rattle.frame.proofs.Writing.{wrote-of, Turn, left-turn}
 use Rattle.frame.proofs.Loops.{Going, going-all, going-turn, going-end}
 use Rattle.compare.specs.Comparing.{orderGates, ordering}
 use Rattle.compare.proofs.Turns.{greater-at, greater-out, greater-last, greater-lit}
@@ -45,23 +45,25 @@ loop-holds c =
 add-loop : tie.Need-add-loop Inv-loop μ-loop
 add-loop c = omega arith
 
+-- the arrays are long enough
+long : (s : tie.Start Inv-loop μ-loop) → (s .args .width ≤ length (s .args .t3)) × (s .args .width ≤ length (s .args .t4))
+long s =
+    let lx : length (s .args .t3) ≡ 48 = search needs in
+    let ly : length (s .args .t4) ≡ 48 = search needs in
+    (omega arith, omega arith)
+
 known : (c : tie.In-loop Inv-loop μ-loop) → Turn (c .before .before .args .t3) (c .before .before .args .t4) (c .before .before .args .width) (c .before .loop .slots) (c .before .loop .at) (c .before .loop .next) 32 2
 known c =
     let t = c .before in
     let s = t .before in
     let i = t .loop .i in
-    let w = s .args .width in
     let x = s .args .t3 in
     let y = s .args .t4 in
     let n = t .loop .next in
     let k = unslot (toZ w32 (t .loop .g)) in
-    let lx : length x ≡ 48 = search needs in
-    let ly : length y ≡ 48 = search needs in
-    let hx : w ≤ length x = omega arith in
-    let hy : w ≤ length y = omega arith in
+    let (hx, hy) = long s in
     let us = orderGates n (literalAt x i) (literalAt y i) (literalAt x i) k in
-    let q = room-of us (left-room (t .loop .inv .going .left) us _ (greater-at i w x y n (omega arith) hx hy (c .loop-test .taken) k)) in
-    record { long-x = hx; long-y = hy; place = q .0; number = q .1 }
+    left-turn (t .loop .inv .going .left) us _ (greater-at i (s .args .width) x y n (omega arith) hx hy (c .loop-test .taken) k) hx hy
 
 -- the same at the sign bit
 last : (c : tie.After-loop Inv-loop μ-loop) → Turn (c .before .before .args .t3) (c .before .before .args .t4) (c .before .before .args .width) (c .before .loop .slots) (c .before .loop .at) (c .before .loop .next) 32 2
@@ -69,18 +71,13 @@ last c =
     let t = c .before in
     let s = t .before in
     let i = t .loop .i in
-    let w = s .args .width in
     let x = s .args .t3 in
     let y = s .args .t4 in
     let n = t .loop .next in
     let k = unslot (toZ w32 (t .loop .g)) in
-    let lx : length x ≡ 48 = search needs in
-    let ly : length y ≡ 48 = search needs in
-    let hx : w ≤ length x = omega arith in
-    let hy : w ≤ length y = omega arith in
+    let (hx, hy) = long s in
     let us = orderGates n (literalAt x i) (literalAt y i) (literalAt y i) k in
-    let q = room-of us (left-room (t .loop .inv .going .left) us _ (greater-last i w x y n (omega arith) hx hy (c .loop-test .left) k)) in
-    record { long-x = hx; long-y = hy; place = q .0; number = q .1 }
+    left-turn (t .loop .inv .going .left) us _ (greater-last i (s .args .width) x y n (omega arith) hx hy (c .loop-test .left) k) hx hy
 
 mul-a : tie.Need-mul-a Inv-loop μ-loop
 mul-a c = omega arith

@@ -4,7 +4,8 @@ use borrow.Author.Tests.{lt-ltb, le-ltb, eq-eqb, ne-eqb}
 use Rattle.sheet.specs.Calls.{unknownCount, writing, decodable}
 use Rattle.promise.proofs.Counts.{counted}
 use Rattle.table.proofs.Answers.{was-accepted, was-refused}
-use Rattle.write.proofs.Roomy.{writing-numbered, writing-tells}
+use Rattle.sheet.proofs.Called.{writing-tells}
+use Rattle.write.proofs.Roomy.{writing-numbered}
 use Rattle.decode.proofs.Chain.{byte-refused, bytes-pass}
 use Rattle.decode.proofs.decodable.Statement.{statement}
 use Rattle.decode.proofs.decodable.Tie as tie

@@ -13,13 +13,10 @@ use Rattle.operation.proofs.greater.Tie as tie
 
 -- a number's array has 48 places
 long : (s : tie.Start) → (s .args .x .width ≤ length (s .args .x .bits)) × (s .args .y .width ≤ length (s .args .y .bits))
-long s = (long-x s, long-y s)
-  where
-    long-x : (s : tie.Start) → s .args .x .width ≤ length (s .args .x .bits)
-    long-x s = let l : length (s .args .x .bits) ≡ 48 = search needs in omega arith
-
-    long-y : (s : tie.Start) → s .args .y .width ≤ length (s .args .y .bits)
-    long-y s = let l : length (s .args .y .bits) ≡ 48 = search needs in omega arith
+long s =
+    let lx : length (s .args .x .bits) ≡ 48 = search needs in
+    let ly : length (s .args .y .bits) ≡ 48 = search needs in
+    (omega arith, omega arith)
 
 -- the circuit, on the numbers brought to one width
 same : (e : tie.After-widen2) → greater (literalsIn (e .before .before .before .args .x)) (literalsIn (e .before .before .before .args .y))

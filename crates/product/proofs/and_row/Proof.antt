@@ -16,7 +16,7 @@ use Rattle.frame.specs.Literals.{unslot, literalAt, between, AllLit}
 use Rattle.frame.specs.Written.{written}
 use Rattle.frame.proofs.Frames.{lent}
 use Rattle.frame.proofs.Literals.{answered, held-lit, lit-held, literals-put}
-use Rattle.frame.proofs.Writing.{left-room, room-of, wrote-of, Turn}
+use Rattle.frame.proofs.Writing.{wrote-of, Turn, left-turn}
 use Rattle.frame.proofs.Loops.{Filling, filling-all, filling-turn, filling-end}
 use Rattle.product.specs.Multiplying.{anding}
 use Rattle.product.proofs.Turns.{ands-at, ands-out, ands-end, ands-none}
@@ -58,8 +58,7 @@ known c =
     let ly : length (s .args .total) ≡ 48 = search needs in
     let hx : w ≤ length x = omega arith in
     let us : List Gate = and (literalAt x j) k ∷ [] in
-    let q = room-of us (left-room (v .left) us _ (ands-at i j w x k n (c .loop-test .taken) (omega arith) hx)) in
-    record { long-x = hx; long-y = omega arith; place = q .0; number = q .1 }
+    left-turn (v .left) us _ (ands-at i j w x k n (c .loop-test .taken) (omega arith) hx) hx (omega arith)
 
 mul-a : tie.Need-mul-a Inv-loop μ-loop
 mul-a c = omega arith

@@ -12,15 +12,15 @@ use mir.Facts.{toZ-ofZ}
 use Rattle.sheet.specs.Rows.{rowsOf}
 use Rattle.frame.proofs.Frames.{lent}
 use Rattle.writer.specs.Writable.{Writable}
-use Rattle.writer.proofs.Table.{lastLiteral}
-use Rattle.write.proofs.Units.{some-rows, units-fit, last-read, units-written}
+use Rattle.writer.proofs.Walking.{rows-fit}
+use Rattle.write.proofs.Units.{lastLiteral, units-written, some-rows, last-read}
 use Rattle.write.proofs.write_table.Statement.{statement}
 use Rattle.write.proofs.write_table.Tie as tie
 
 put-unit-requires : tie.Need-put-unit-requires
 put-unit-requires c κs =
     let s = c .before .before in
-    omega (arith, units-fit (s .args .table .now) (s .args .rows) (s .args .records) (s .args .map .now) (s .args .slots .now) (s .pre))
+    omega (arith, rows-fit (s .args .table .now) (s .args .rows) (s .args .records) (s .args .map .now) (s .args .slots .now) (s .pre))
 
 write-rows-requires : tie.Need-write-rows-requires
 write-rows-requires c κs =
@@ -40,7 +40,7 @@ known w =
     let s = w .before .before .before .before .before .before .before in
     let ok = s .pre in
     let some = some-rows (s .args .table .now) (s .args .rows) (s .args .records) (s .args .map .now) (s .args .slots .now) ok in
-    let room = units-fit (s .args .table .now) (s .args .rows) (s .args .records) (s .args .map .now) (s .args .slots .now) ok in
+    let room = rows-fit (s .args .table .now) (s .args .rows) (s .args .records) (s .args .map .now) (s .args .slots .now) ok in
     let m : length (w .write-rows .last .1 .1 .1 .0) ≡ length (s .args .map .now) = search needs in
     let l : length (w .write-rows .last .1 .1 .1 .1 .0) ≡ length (s .args .slots .now) = search needs in
     record { some = some; first = omega (arith, ok .map); last = omega (arith, w .write-rows .ensures .1 .0) }
@@ -84,7 +84,7 @@ returns c =
     let q : SFits w32 (f .first .result) = search needs in
     let e = rw (toZ-ofZ q, last) at (p .put-unit2 .ensures) in
     let d = lent (w .write-rows .result) (lastLiteral (rowsOf (s .args .rows) (s .args .table .now)) ∷ pos 0 ∷ []) (w .write-rows .last .1 .1 .1 .1 .0) (p .put-unit2 .last .0) e in
-    (units-written (s .args .table .now) (s .args .rows) (s .args .records) (s .args .map .now) (s .args .slots .now) (s .pre) (u .put-unit .ensures) (v .0) (v .1 .0) d, v .1 .1)
+    (units-written (s .args .rows) (s .args .table .now) (s .args .slots .now) (u .put-unit .ensures) (v .0) (v .1 .0) d, v .1 .1)
 
 pub write-table-spec : {M : Type 1} → statement M
 write-table-spec =

@@ -1,5 +1,6 @@
 -- `judge::plans::settle` meets its contract. Assumes nothing.
 use mathlib.Core.Path.{_≡_}
+use mathlib.Core.Bool.{false}
 use mathlib.Core.List.{[], _∷_}
 use Prim.Native.Nat.{ℕ}
 use native.Mathlib.Nat.{add-zero}
@@ -10,11 +11,11 @@ use Rattle.sheet.specs.declared.Record.{Record}
 use Rattle.sheet.specs.declared.Verdict.{Verdict}
 use Rattle.sheet.specs.Acceptance.{outside, planBy}
 use Rattle.sheet.proofs.Kind.{enum}
-use Rattle.sheet.proofs.Tested.{neither}
+use Rattle.sheet.proofs.Tested.{neither, at-least, at-most}
 use Rattle.row.proofs.Tags.{by-tag}
+use Rattle.numbers.specs.Bounds.{Denominator}
 use Rattle.judge.specs.Bounds.{Bounded}
 use Rattle.judge.specs.Parts.{settled, combinedPlan}
-use Rattle.judge.proofs.Inside.{at-most, declared}
 use borrow.Author.Needs.{needs}
 use Rattle.judge.proofs.plans.settle.Statement.{statement}
 use Rattle.judge.proofs.plans.settle.Tie as tie
@@ -22,6 +23,9 @@ use Rattle.judge.proofs.plans.settle.Tie as tie
 -- v is the verdict on a row of the kind k, with the fields of f
 abbrev Answer : (first : ℕ) → Verdict → Fields → (a b c : Record) → Kind → Type 0
 Answer first v f a b c k = (v ≡ settled first (planBy k (f .p) (f .x) (f .y) (f .z) a b c)) × Bounded v
+
+declared : (z : ℕ) → outside 1 4096 z ≡ false → Denominator z
+declared z e = record { some = at-least 1 4096 z e; most = at-most 1 4096 z e }
 
 boolean-requires : tie.Need-boolean-requires
 boolean-requires c κs = search needs
