@@ -27,14 +27,16 @@ use Rattle.frame.specs.Written.{written}
 use Rattle.frame.proofs.Frames.{front-then}
 use Rattle.writer.specs.Writable.{Writable, rowSlots}
 
+-- the literal of the last row, as a slot
 abbrev pub lastLiteral : List Fields → ℤ
 lastLiteral rows = slot (lit (cellAt (out 1 (stepsFrom [] rows)) (length rows - 1)))
 
--- the slots, part by part
+-- a table's slots: the first unit, what the rows write, the last unit
 table-slots : (rows : List Fields) → slotsFor rows ≡ (pos 1 ∷ pos 0 ∷ written 1 (gates 1 (stepsFrom [] rows))) ++ lastLiteral rows ∷ pos 0 ∷ []
 unfolding slotsFor clauses clausesButLast lastClause cells steps written
 table-slots rows = slotsOf-append (clausesFrom 0 (gates 0 (steps rows))) (lastClause rows ∷ [])
 
+-- they are written one behind the other
 pub units-written : (rows : ℕ) (table : List ℕ) (slots₀ : List ℤ) {s₁ s₂ s₃ : List ℤ} {at : ℕ}
     → s₁ ≡ front (pos 1 ∷ pos 0 ∷ []) slots₀ → s₂ ≡ over 2 (rowSlots rows table) s₁ → at ≡ 2 + length (rowSlots rows table)
     → s₃ ≡ over at (lastLiteral (rowsOf rows table) ∷ pos 0 ∷ []) s₂ → s₃ ≡ front (slotsFor (rowsOf rows table)) slots₀

@@ -1,3 +1,3 @@
--- The laws of the literal map and of the walk over a table. Assumes nothing.
+-- The walk over a table's rows: one row on, then all of them. Assumes nothing.
 pub mod Walk
 pub mod Walking
