@@ -14,7 +14,7 @@ use Rattle.sheet.specs.Rows.{rowsOf}
 use Rattle.sheet.specs.Values.{unknowns, eachInBits}
 use Rattle.sheet.specs.Acceptance.{Outcome, refused, accepted, Sheet, accept}
 use Rattle.sheet.specs.Calls.{_>>_, refuse_at_if_, refuse_counting_unless_, falseAt, unknownCount, choosing}
-use Rattle.promise.proofs.Counts.{counted}
+use Rattle.promise.proofs.Counts.{counts-are-made}
 use Rattle.table.specs.declared.answer.Survey.{Survey}
 use Rattle.table.specs.Surveys.{asSurvey}
 use Rattle.table.proofs.Answers.{Numbered, bind-numbered, test-numbered, accept-numbered, was-accepted, was-refused}
@@ -43,7 +43,7 @@ module _ (table : List ℕ) (values : List ℤ) where
 
   module _ {s : Survey} (a : Surveyed (accept table) s) where
     unknown : s .counts .unknowns ≡ unknownCount (a .sheet)
-    unknown = ap (λ (t : Survey). t .counts .unknowns) (a .same) ∙ counted table (a .sheet) (a .is) .unknown
+    unknown = ap (λ (t : Survey). t .counts .unknowns) (a .same) ∙ counts-are-made table (a .sheet) (a .is) .unknown
 
     pub differs : (length values ≡ s .counts .unknowns → ⊥) → asSurvey (refused 14 (s .counts .unknowns)) ≡ asSurvey (choosing table values)
     unfolding choosing

@@ -13,7 +13,7 @@ use Rattle.sheet.specs.Calls.{_>>=_, _giving_, left, sheetSlots}
 use Rattle.sheet.specs.Texts.{readLines, dimacs, refusedLine}
 use Rattle.sheet.specs.Programs.{inputOf, sheetIn, printed, clauseProgram}
 use Rattle.sheet.proofs.Called.{same-accepted, bound-accepts, giving-refuses}
-use Rattle.promise.proofs.Counts.{counted}
+use Rattle.promise.proofs.Counts.{counts-are-made}
 use Rattle.table.proofs.Answers.{left-accepted}
 use Rattle.print.proofs.Pieces.{dimacs-joined}
 use Rattle.program.specs.Sheets.{sheetRead}
@@ -26,7 +26,7 @@ slots-printed : (table : List ℕ) (sheet : Sheet) → accept table ≡ accepted
     → dimacsText (sheet .counts) (sheetSlots sheet ++ drop (length (sheetSlots sheet)) slots₀) ≡ dimacs sheet
 slots-printed table sheet e slots₀ =
     let written = sheetSlots sheet in
-    rw (take-at written (drop (length written) slots₀) (sheet .counts .slots) (sym (counted table sheet e .slot))) (dimacs-joined sheet)
+    rw (take-at written (drop (length written) slots₀) (sheet .counts .slots) (sym (counts-are-made table sheet e .slot))) (dimacs-joined sheet)
 
 module _ (input : List ℕ) where
   abbrev outcome : Outcome Sheet

@@ -11,7 +11,7 @@ use Rattle.sheet.specs.Rows.{rowsOf}
 use Rattle.sheet.specs.Acceptance.{Outcome, accepted, Sheet, accept}
 use Rattle.sheet.specs.Steps.{clauses, slotsFor, mapFor}
 use Rattle.sheet.specs.Calls.{decodable, decoding, left, sheetMap, sheetSlots, settingsOf}
-use Rattle.promise.proofs.Counts.{counted}
+use Rattle.promise.proofs.Counts.{counts-are-made}
 use Rattle.table.specs.declared.answer.Survey.{Survey}
 use Rattle.table.specs.Surveys.{asSurvey, InBounds}
 use Rattle.table.proofs.Answers.{was-accepted, was-refused, left-refused, left-accepted}
@@ -92,7 +92,7 @@ module _ (table : List ℕ) (records : ℕ) (map₀ slots₀ : List ℤ) (model 
         slots-fit =
             let ws = slotsFor (sheet .rows) in
             let n : s .counts .slots ≡ sheet .counts .slots = ap (λ (t : Survey). t .counts .slots) surveyed in
-            omega (arith, ap length slots-whole, length-append ws (drop (length ws) slots₀), counted table sheet (ready .roomy .is) .slot)
+            omega (arith, ap length slots-whole, length-append ws (drop (length ws) slots₀), counts-are-made table sheet (ready .roomy .is) .slot)
 
         pub slots-named : AllSlotOf (length model) (take (s .counts .slots) slots)
         slots-named =
@@ -119,7 +119,7 @@ module _ (table : List ℕ) (records : ℕ) (map₀ slots₀ : List ℤ) (model 
           pub few-clause : k < 4294967296
           few-clause =
               let n : s .counts .clauses ≡ sheet .counts .clauses = ap (λ (t : Survey). t .counts .clauses) surveyed in
-              omega (arith, first, few-clauses model (clauses (sheet .rows)), counted table sheet (ready .roomy .is) .clause, bounds .counts .clauses)
+              omega (arith, first, few-clauses model (clauses (sheet .rows)), counts-are-made table sheet (ready .roomy .is) .clause, bounds .counts .clauses)
 
           pub clause-false : (k ≡ 0 → ⊥) → Promised (falsified s k) map slots values₀
           clause-false n =

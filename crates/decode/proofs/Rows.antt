@@ -24,7 +24,7 @@ use Rattle.sheet.specs.Calls.{assigned}
 use Rattle.sheet.proofs.Counted.{CellsFor, CellFor, cell-at, cells-many}
 use Rattle.sheet.proofs.Pages.{Narrow, page-first, pages-at, pages-long, narrow-at, narrow-cells}
 use Rattle.sheet.proofs.Total.{whole-table}
-use Rattle.promise.proofs.Counts.{counted, passed-narrow}
+use Rattle.promise.proofs.Counts.{counts-are-made, passed-narrow}
 use Rattle.frame.specs.Literals.{literals}
 use Rattle.frame.proofs.Literals.{literals-of}
 use Rattle.table.proofs.Earlier.{zeros}
@@ -73,7 +73,7 @@ module _ {table : List ℕ} {rows : ℕ} {records : List Record} {map₀ : List 
   made = cells (ok .table-is .sheet .rows)
 
   gates-many : length (gates 0 (steps (ok .table-is .sheet .rows))) ≡ length model
-  gates-many = sym (counted table (ok .table-is .sheet) (ok .table-is .is) .variables) ∙ sym (ok .variables)
+  gates-many = sym (counts-are-made table (ok .table-is .sheet) (ok .table-is .is) .variables) ∙ sym (ok .variables)
 
   fit : CellsFor (length model) (ok .table-is .sheet .records) made
   fit = subst (λ (n : ℕ). CellsFor n (ok .table-is .sheet .records) made) gates-many (whole-table (ok .table-is .sheet) (tells (ok .table-is) .total) (tells (ok .table-is) .passed) .fit)

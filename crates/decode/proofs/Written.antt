@@ -12,7 +12,7 @@ use Rattle.sheet.specs.Steps.{cellAt, steps, cells, clausesButLast, lastClause,
 use Rattle.sheet.proofs.Accepted.{accepted-tells}
 use Rattle.sheet.proofs.Counted.{first-named, cell-at}
 use Rattle.sheet.proofs.Total.{whole-table}
-use Rattle.promise.proofs.Counts.{counted}
+use Rattle.promise.proofs.Counts.{counts-are-made}
 use Rattle.assign.specs.Model.{AllSlotOf}
 use Rattle.assign.specs.Clauses.{clausesIn}
 use Rattle.assign.proofs.Slots.{AllNames, names-append, gates-name, slots-name}
@@ -37,15 +37,15 @@ module _ (table : List ℕ) (sheet : Sheet) (is : accept table ≡ accepted shee
   -- as many slots as the table counts, of slots with a tail
   module _ (slots rest : List ℤ) (e : slots ≡ slotsFor (sheet .rows) ++ rest) where
     all-written : take (sheet .counts .slots) slots ≡ slotsFor (sheet .rows)
-    all-written = ap (take (sheet .counts .slots)) e ∙ take-at (slotsFor (sheet .rows)) rest (sheet .counts .slots) (sym (counted table sheet is .slot))
+    all-written = ap (take (sheet .counts .slots)) e ∙ take-at (slotsFor (sheet .rows)) rest (sheet .counts .slots) (sym (counts-are-made table sheet is .slot))
 
     pub written-slots : sheet .counts .variables < 2147483648 → {m : ℕ} → m ≡ sheet .counts .variables → AllSlotOf m (take (sheet .counts .slots) slots)
     unfolding slotsFor
     written-slots few same =
-        let n : length (gates 0 (steps (sheet .rows))) ≡ sheet .counts .variables = sym (counted table sheet is .variables) in
+        let n : length (gates 0 (steps (sheet .rows))) ≡ sheet .counts .variables = sym (counts-are-made table sheet is .variables) in
         rw (all-written, same) (slots-name (sheet .counts .variables) few (clauses (sheet .rows)) (subst (λ (k : ℕ). AllNames k (clauses (sheet .rows))) n clauses-name))
 
     pub written-clauses : clausesIn (take (sheet .counts .slots) slots) ≡ clauses (sheet .rows)
     unfolding slotsFor
     written-clauses =
-        ap (λ (k : ℕ). clausesIn (take k slots)) (counted table sheet is .slot) ∙ clauses-written (clauses (sheet .rows)) slots rest e
+        ap (λ (k : ℕ). clausesIn (take k slots)) (counts-are-made table sheet is .slot) ∙ clauses-written (clauses (sheet .rows)) slots rest e

@@ -19,7 +19,7 @@ use Rattle.sheet.specs.Steps.{extension}
 use Rattle.sheet.specs.Calls.{choosing, extending, modelOf, constraint}
 use Rattle.sheet.specs.Relations.{Extends}
 use Rattle.sheet.proofs.Called.{choosing-tells}
-use Rattle.promise.proofs.Counts.{counted}
+use Rattle.promise.proofs.Counts.{counts-are-made}
 use Rattle.promise.proofs.Promise.{demand-three}
 use Rattle.promise.proofs.Evaluated.{rows-many, last-numerator}
 use Rattle.frame.specs.Frame.{front}
@@ -91,7 +91,7 @@ module _ (table : List ℕ) (values : List ℤ) (model₀ : List ℕ) where
       long : length (map numerator (rowValues (a .sheet .rows) values)) ≡ s .rows
       long =
           length-map (rowValues (a .sheet .rows) values) numerator ∙ rows-many (a .sheet .rows) values
-          ∙ sym (counted table (a .sheet) is .records) ∙ ok .many
+          ∙ sym (counts-are-made table (a .sheet) is .records) ∙ ok .many
 
       room : s .rows ≤ length results
       room = let numerators = map numerator (rowValues (a .sheet .rows) values) in omega (arith, ap length as-computed, length-append numerators (drop (length numerators) l), long)
@@ -108,7 +108,7 @@ module _ (table : List ℕ) (values : List ℤ) (model₀ : List ℕ) where
       unfolding front
       extended f g =
           let o = by-values (a .sheet) (a .is) (rw (a .same) at h) in
-          let n : s .rows ≡ length (a .sheet .rows) = sym (ok .many) ∙ counted table (a .sheet) is .records in
+          let n : s .rows ≡ length (a .sheet .rows) = sym (ok .many) ∙ counts-are-made table (a .sheet) is .records in
           let vs = rowValues (a .sheet .rows) values in
           let last : getD results (s .rows - 1) (pos 0) ≡ numerator (valueAt vs (length (a .sheet .rows) - 1))
           = ap (λ (r : List ℤ). getD r (s .rows - 1) (pos 0)) as-computed ∙ List·getD-append (map numerator vs) _ (pos 0) (s .rows - 1) (omega (arith, long, some))

@@ -23,7 +23,7 @@ use Rattle.sheet.specs.Relations.{Measures, Extends, Decodes}
 use Rattle.sheet.proofs.Accepted.{accepted-tells}
 use Rattle.sheet.proofs.Called.{same-accepted, bound-accepts, then-accepts, not-refused, choosing-tells}
 use Rattle.promise.specs.Across.{EvaluatesTo, DecodedMeetTheSheet, ExtendedDecodesBack, ExtendedNotLost, ExtendedAsEvaluated}
-use Rattle.promise.proofs.Counts.{counted}
+use Rattle.promise.proofs.Counts.{counts-are-made}
 use Rattle.promise.proofs.Promise.{demand-three}
 use Rattle.promise.proofs.Assessor.{decoding-tells, bits-back, settings-meet-the-sheet, none-lost}
 use Rattle.promise.proofs.Evaluated.{is-done, evaluated}
@@ -78,7 +78,7 @@ module _ (table : List ℕ) (records₀ records₁ : List Record) (map₀ map₁
   settled sheet o =
       let e = decoding-tells table (length records₀) (length map₀) (length slots₀) model (length values₀) sheet o .0 .isSheet in
       let within = settings-meet-the-sheet table (length records₀) (length map₀) (length slots₀) model (length values₀) sheet o .0 in
-      ap (take (sheet .counts .unknowns)) (d .values) ∙ written-front sheet (settingsOf model) (sheet .counts .unknowns) (within .number ∙ sym (counted table sheet e .unknown)) outcome o values₀
+      ap (take (sheet .counts .unknowns)) (d .values) ∙ written-front sheet (settingsOf model) (sheet .counts .unknowns) (within .number ∙ sym (counts-are-made table sheet e .unknown)) outcome o values₀
 
 pub writes : (table : List ℕ) (sheet : Sheet) → accept table ≡ accepted sheet → (records map slots : ℕ) → rowCount sheet ≤ records → 48 * rowCount sheet ≤ map → sheet .counts .slots ≤ slots
     → writing table records map slots ≡ accepted sheet
@@ -122,7 +122,7 @@ extended-not-lost table values model₀ model₁ x =
     let t = extends-tells table values model₀ model₁ true x in
     let sheet = t .sheet in
     let many = accepted-tells table sheet (t .isSheet) .many in
-    let unknown = counted table sheet (t .isSheet) .unknown in
+    let unknown = counts-are-made table sheet (t .isSheet) .unknown in
     let model = take (sheet .counts .variables) model₁ in (
       sheet .counts,
       measured table sheet (t .isSheet),

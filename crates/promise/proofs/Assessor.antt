@@ -117,7 +117,7 @@ pub extension-decoded : (table : List ℕ) (r m s v : ℕ) (sheet : Sheet) → w
 unfolding decoding
 extension-decoded table r m s v sheet writes room values within =
     let x = extension (sheet .rows) values in
-    let one = demand-three table sheet (writing-tells table r m s sheet writes) values within .one in
+    let one = demand-three table sheet (writing-tells table r m s sheet writes .is) values within .one in
     rw (can-decode table r m s (map bit x) v sheet writes (length-map x bit ∙ one .sized) (bits-small x) room, bits-back x)
 
 pub none-lost : NoneLost

@@ -85,9 +85,9 @@ passed-narrow (f ∷ rows) rs so records total p n =
     passed-narrow rows (rs ++ p .0 ∷ []) (so ⊕ p .1) records total (p .3) (narrow-snoc rs (p .0) n (passes-narrow (p .2)))
 
 -- what acceptance counts is what the steps make
-pub counted : CountsAreMade
+pub counts-are-made : CountsAreMade
 unfolding clausesButLast lastClause clauses slotsFor mapFor
-counted table sheet e =
+counts-are-made table sheet e =
     let a = accepted-tells table sheet e in
     let w = whole-table sheet (a .total) (a .passed) in
     let but = clausesFrom 0 (gates 0 (steps (sheet .rows))) in

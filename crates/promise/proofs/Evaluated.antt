@@ -22,7 +22,7 @@ use Rattle.sheet.proofs.Called.{first-false}
 use Rattle.sheet.proofs.Widths.{Holds, hold-at}
 use Rattle.promise.specs.Across.{rowsIn, EvaluatesTo}
 use Rattle.promise.proofs.Choices.{first, after, within-all}
-use Rattle.promise.proofs.Counts.{counted}
+use Rattle.promise.proofs.Counts.{counts-are-made}
 use Rattle.promise.proofs.Fitting.{table-fits}
 use Rattle.promise.proofs.Promise.{known}
 use Rattle.promise.proofs.Outcomes.{same-said}
@@ -68,7 +68,7 @@ module _ (table : List ℕ) (sheet : Sheet) (e : accept table ≡ accepted sheet
   unfolding left
   evaluated results₀ answer results₁ room h =
       let is = accepted-tells table sheet e in
-      let many = counted table sheet e .records in
+      let many = counts-are-made table sheet e .records in
       let o = evaluation (length results₀) (omega (arith, is .many)) in
       let vs = rowValues (sheet .rows) values in
       let long : length (map numerator vs) ≡ length (sheet .rows) = length-map vs numerator ∙ rows-many (sheet .rows) values in

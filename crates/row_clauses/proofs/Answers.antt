@@ -10,7 +10,7 @@ use Rattle.sheet.specs.declared.Record.{Record}
 use Rattle.sheet.specs.Acceptance.{Outcome, refused, accepted, recordAt, Sheet, accept}
 use Rattle.sheet.specs.Calls.{rowClauses, part}
 use Rattle.sheet.specs.Relations.{GivesRow}
-use Rattle.promise.proofs.Counts.{counted}
+use Rattle.promise.proofs.Counts.{counts-are-made}
 use Rattle.promise.proofs.Parts.{part-inside}
 use Rattle.table.specs.declared.answer.Survey.{Survey}
 use Rattle.table.specs.Surveys.{asSurvey}
@@ -47,7 +47,7 @@ module _ (table : List ℕ) (room row : ℕ) where
 
     inside : sheet .counts .slots ≤ room → row < length (sheet .records) → recordAt (sheet .records) row .first + recordAt (sheet .records) row .slots ≤ room
     inside l h =
-        let c = counted table sheet is in
+        let c = counts-are-made table sheet is in
         omega (arith, part-inside table sheet is row (omega (arith, c .records)), c .slot)
 
 -- by its survey

@@ -21,7 +21,7 @@ use Rattle.sheet.specs.Programs.{printed}
 use Rattle.sheet.proofs.Accepted.{accepted-tells, passed-many}
 use Rattle.sheet.proofs.Called.{first-false}
 use Rattle.promise.proofs.Assessor.{settings-meet-the-sheet}
-use Rattle.promise.proofs.Counts.{counted}
+use Rattle.promise.proofs.Counts.{counts-are-made}
 use Rattle.table.specs.declared.answer.Survey.{Survey}
 use Rattle.table.proofs.Answers.{left-accepted}
 use Rattle.program.proofs.Rooms.{writing-sheet}
@@ -115,7 +115,7 @@ module _ (table bytes : List ℕ) (t : Told table bytes) (map₀ slots₀ values
       done = does-is ∙ ap (λ (o : Outcome (Unit {0})). o >> accepted sheet) passes
 
       unknowns-are : s .counts .unknowns ≡ unknownCount sheet
-      unknowns-are = rw (e, could-is) (counted table sheet is .unknown)
+      unknowns-are = rw (e, could-is) (counts-are-made table sheet is .unknown)
 
       pub numerators-few : s .counts .unknowns ≤ 256
       numerators-few = omega (arith, unknowns-are, unknowns-few)

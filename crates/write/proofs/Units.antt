@@ -20,7 +20,7 @@ use Rattle.sheet.proofs.Accepted.{accepted-tells}
 use Rattle.sheet.proofs.Counted.{cell-at, cells-many}
 use Rattle.sheet.proofs.Pages.{Narrow, narrow-cells, pages-at}
 use Rattle.sheet.proofs.Total.{whole-table}
-use Rattle.promise.proofs.Counts.{counted, passed-narrow}
+use Rattle.promise.proofs.Counts.{counts-are-made, passed-narrow}
 use Rattle.table.proofs.Rowwise.{all-read}
 use Rattle.frame.specs.Frame.{front, over}
 use Rattle.frame.specs.Written.{written}
@@ -80,12 +80,12 @@ module _ (table : List ℕ) (rows : ℕ) (records : List Record) (map₀ slots�
       let cs = out 1 (stepsFrom [] fs) in
       let narrow = narrow-cells _ (ok .table-is .sheet .records) cs (w .fit) (passed-narrow fs [] theFirst (ok .table-is .sheet .records) (a .total) (a .passed) tt) in
       let c = cell-at _ (omega arith) (ok .table-is .sheet .records) cs (w .fit) (length fs - 1) in
-      let many : length cs ≡ length fs = cells-many _ (ok .table-is .sheet .records) cs (w .fit) ∙ counted table (ok .table-is .sheet) (ok .table-is .is) .records in
-      let last : length fs - 1 < length cs = omega (arith, a .some, counted table (ok .table-is .sheet) (ok .table-is .is) .records) in
+      let many : length cs ≡ length fs = cells-many _ (ok .table-is .sheet .records) cs (w .fit) ∙ counts-are-made table (ok .table-is .sheet) (ok .table-is .is) .records in
+      let last : length fs - 1 < length cs = omega (arith, a .some, counts-are-made table (ok .table-is .sheet) (ok .table-is .is) .records) in
       ap (λ (l : List ℤ). getD l (48 * (length fs - 1)) (pos 0)) e ∙ head-read cs _ (length fs - 1) narrow last (omega (arith, c .some, c .lits .size))
 
   pub last-read : {m : List ℤ} → m ≡ front (mapFor (rowsOf rows table)) map₀ → getD m (48 * (rows - 1)) (pos 0) ≡ lastLiteral (rowsOf rows table)
   last-read {m} e =
       let r = known-rows in
-      let n : rows ≡ length (ok .table-is .sheet .rows) = omega (arith, ok .table-is .many, counted table (ok .table-is .sheet) (ok .table-is .is) .records) in
+      let n : rows ≡ length (ok .table-is .sheet .rows) = omega (arith, ok .table-is .many, counts-are-made table (ok .table-is .sheet) (ok .table-is .is) .records) in
       ap (λ (i : ℕ). getD m (48 * (i - 1)) (pos 0)) n ∙ last-in (e ∙ ap (λ (fs : List Fields). front (mapFor fs) map₀) (sym r)) ∙ ap lastLiteral r

@@ -2,7 +2,7 @@
 use borrow.Author.Needs.{needs}
 use borrow.Author.Tests.{lt-ltb, le-ltb, eq-eqb, ne-eqb}
 use Rattle.sheet.specs.Calls.{unknownCount, writing, decodable}
-use Rattle.promise.proofs.Counts.{counted}
+use Rattle.promise.proofs.Counts.{counts-are-made}
 use Rattle.table.proofs.Answers.{was-accepted, was-refused}
 use Rattle.sheet.proofs.Called.{writing-tells}
 use Rattle.write.proofs.Roomy.{writing-numbered}
@@ -79,7 +79,7 @@ returns-4 c =
     let s = v .before .before .before in
     let (value, bounds) = c .refused3 .ensures in
     let (sheet, is, f) = was-accepted (writing (s .args .table .now) (s .args .records) (s .args .map) (s .args .slots)) (v .fitting .ensures .0) (writing-numbered (s .args .table .now) (s .args .records) (s .args .map) (s .args .slots)) (n .if1 .left) in
-    let u = counted (s .args .table .now) sheet (writing-tells (s .args .table .now) (s .args .records) (s .args .map) (s .args .slots) sheet is .is) .unknown in
+    let u = counts-are-made (s .args .table .now) sheet (writing-tells (s .args .table .now) (s .args .records) (s .args .map) (s .args .slots) sheet is .is) .unknown in
     (rw (is, eq-eqb _ _ (rw f at (m .if2 .left)), bytes-pass (s .args .model .now) (b .first-not-bit .ensures) (j .if3 .left), lt-ltb (s .args .values) (unknownCount sheet) (rw (f, u) at (k .if4 .taken))) (rw (f, u) at value), bounds)
 
 returns-5 : tie.Need-returns-5
@@ -93,7 +93,7 @@ returns-5 c =
     let s = v .before .before .before in
     let (value, bounds) = v .fitting .ensures in
     let (sheet, is, f) = was-accepted (writing (s .args .table .now) (s .args .records) (s .args .map) (s .args .slots)) value (writing-numbered (s .args .table .now) (s .args .records) (s .args .map) (s .args .slots)) (n .if1 .left) in
-    let u = counted (s .args .table .now) sheet (writing-tells (s .args .table .now) (s .args .records) (s .args .map) (s .args .slots) sheet is .is) .unknown in
+    let u = counts-are-made (s .args .table .now) sheet (writing-tells (s .args .table .now) (s .args .records) (s .args .map) (s .args .slots) sheet is .is) .unknown in
     (rw (is, eq-eqb _ _ (rw f at (m .if2 .left)), bytes-pass (s .args .model .now) (b .first-not-bit .ensures) (j .if3 .left), le-ltb (s .args .values) (unknownCount sheet) (rw (f, u) at (c .if4 .left))) f, bounds)
 
 pub decodable-spec : {M : Type 1} → statement M
