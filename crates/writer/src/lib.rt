@@ -25,9 +25,7 @@ pub fn write_rows(
     let mut next = 1;
     let mut r = 0;
     while r < rows {
-        let start = 8 * r;
-        let end = start + 8;
-        let Reading::Read(f) = row::read_row(&table[start..end]) else {
+        let Reading::Read(f) = row::read_at(table, r) else {
             return at;
         };
         let x = table::place(f.x, r);

@@ -1,7 +1,6 @@
 -- `writer::write_rows` meets its contract. Assumes nothing.
 use mathlib.Core.Path.{_≡_, sym, _∙_}
 use Prim.Native.Nat.{_+_, _*_, _-_, _≤_, _<_}
-use native.Mathlib.Nat.{add-sub-cancel-left}
 use native.Mathlib.Omega.{arith}
 use borrow.Author.Needs.{needs}
 use lib.ListN.{length}
@@ -28,23 +27,8 @@ module _ (q : tie.In-loop Inv-loop μ-loop) where
 loop-holds : tie.Need-loop-holds Inv-loop μ-loop
 loop-holds c = walking-none _ _ _ _ _ (c .before .pre)
 
-mul-start : tie.Need-mul-start Inv-loop μ-loop
-mul-start c = let h = small c in search needs
-
-add-end : tie.Need-add-end Inv-loop μ-loop
-add-end c = let h = small c in search needs
-
-sub-read-row : tie.Need-sub-read-row Inv-loop μ-loop
-sub-read-row c = omega arith
-
-part-read-row-start : tie.Need-part-read-row-start Inv-loop μ-loop
-part-read-row-start c = let h = row-ends c in search needs
-
-part-read-row-end : tie.Need-part-read-row-end Inv-loop μ-loop
-part-read-row-end c = let h = row-ends c in search needs
-
-read-row-requires : tie.Need-read-row-requires Inv-loop μ-loop
-read-row-requires c κs = let h = row-ends (c .before) in search needs
+read-at-requires : tie.Need-read-at-requires Inv-loop μ-loop
+read-at-requires c κs = row-ends c
 
 enum-known-f : tie.Need-enum-known-f Inv-loop μ-loop
 enum-known-f c = search needs
@@ -53,17 +37,16 @@ enum-told : tie.Need-enum-told Inv-loop μ-loop
 enum-told c = search needs
 
 same-length : tie.Need-same-length Inv-loop μ-loop
-same-length c = let h = walking-long (c .before .before .before .before .before .loop .inv) in search needs
+same-length c = let h = walking-long (c .before .before .before .before .loop .inv) in search needs
 
 same-length-2 : tie.Need-same-length-2 Inv-loop μ-loop
-same-length-2 c = let h = walking-long (c .before .before .before .before .before .loop .inv) in search needs
+same-length-2 c = let h = walking-long (c .before .before .before .before .loop .inv) in search needs
 
 returns : tie.Need-returns Inv-loop μ-loop
 returns c =
     let j = c .before .before in
-    let q = j .before .before in
-    let u = rw add-sub-cancel-left at (sym (j .read-row .ensures) ∙ c .enum-told .given .1) in
-    absurd (not-refused (sym (walking-row (q .before .loop .inv) (q .loop-test .taken) .read) ∙ u))
+    let q = j .before in
+    absurd (not-refused (sym (walking-row (q .before .loop .inv) (q .loop-test .taken) .read) ∙ sym (j .read-at .ensures) ∙ c .enum-told .given .1))
 
 place-requires : tie.Need-place-requires Inv-loop μ-loop
 place-requires c κs = tt
@@ -77,13 +60,12 @@ place-requires-3 c κs = tt
 -- ---- a row was read
 module _ (w : tie.After-f Inv-loop μ-loop) where
   abbrev turn : tie.In-loop Inv-loop μ-loop
-  turn = w .before .before .before .before
+  turn = w .before .before .before
 
   is-row : walking-row (turn .before .loop .inv) (turn .loop-test .taken) .fields ≡ w .f .given .0 .0
   is-row =
       let j = w .before .before in
-      let u = rw add-sub-cancel-left at (sym (j .read-row .ensures) ∙ w .f .given .1) in
-      same-read (sym (walking-row (turn .before .loop .inv) (turn .loop-test .taken) .read) ∙ u)
+      same-read (sym (walking-row (turn .before .loop .inv) (turn .loop-test .taken) .read) ∙ sym (j .read-at .ensures) ∙ w .f .given .1)
 
 mul-refer-all : tie.Need-mul-refer-all Inv-loop μ-loop
 mul-refer-all c = omega (arith, small (turn (c .before .before .before .before .before)), c .before .before .before .place .ensures)
@@ -177,12 +159,7 @@ write-rows-spec =
     Inv-loop
     μ-loop
     loop-holds
-    mul-start
-    add-end
-    sub-read-row
-    part-read-row-start
-    part-read-row-end
-    read-row-requires
+    read-at-requires
     enum-known-f
     enum-told
     same-length
