@@ -105,13 +105,21 @@ bits-small [] = refl
 bits-small (true ∷ s) = bits-small s
 bits-small (false ∷ s) = bits-small s
 
--- values that make the constraint true make every clause true
+-- values that make the constraint true make every clause true, and 19 refuses none
 extension-meets : (table : List ℕ) (sheet : Sheet) → accept table ≡ accepted sheet → (values : List ℤ) → Within (sheet .rows) values → constraint sheet values ≡ true
     → allTrue (extension (sheet .rows) values) (clauses (sheet .rows)) ≡ true
 extension-meets table sheet e values within holds =
     let s = extension (sheet .rows) values in
     let p = demand-three table sheet e values within in
     last-of s (sheet .rows) ∙ and-eq-true-iff (allTrue s (clausesButLast (sheet .rows))) (clauseTrue s (lastClause (sheet .rows))) .1 (p .one .meets, p .last s (p .one) ∙ holds)
+
+pub extension-passes : (table : List ℕ) (sheet : Sheet) → accept table ≡ accepted sheet → (values : List ℤ) → Within (sheet .rows) values → constraint sheet values ≡ true
+    → (refuse 19 counting 1 unless map (clauseTrue (extension (sheet .rows) values)) (clauses (sheet .rows))) ≡ accepted tt
+extension-passes table sheet e values within holds =
+    let x = extension (sheet .rows) values in
+    let truths = map (clauseTrue x) (clauses (sheet .rows)) in
+    let t₁₉ : ltb (falseAt 1 truths) (1 + length truths) ≡ false = first-false 1 truths ∙ ap not (every-clause x (clauses (sheet .rows)) ∙ extension-meets table sheet e values within holds) in
+    rw t₁₉
 
 can-decode : (table : List ℕ) (r m s : ℕ) (model : List ℕ) (v : ℕ) (sheet : Sheet) → writing table r m s ≡ accepted sheet → length model ≡ sheet .counts .variables
     → every (map (λ (b : ℕ). ltb b 2) model) ≡ true → unknownCount sheet ≤ v → decodable table r m s model v ≡ accepted sheet
@@ -136,10 +144,8 @@ extension-decoded table r m s v sheet writes room values within =
 pub none-lost : NoneLost
 none-lost table r m s v sheet writes room values within holds =
     let e = writing-tells table r m s sheet writes in
-    let x = extension (sheet .rows) values in
-    let truths = map (clauseTrue x) (clauses (sheet .rows)) in
-    let t₁₉ : ltb (falseAt 1 truths) (1 + length truths) ≡ false = first-false 1 truths ∙ ap not (every-clause x (clauses (sheet .rows)) ∙ extension-meets table sheet e values within holds) in
-    (extension-decoded table r m s v sheet writes room values within ∙ rw t₁₉, ap (settings sheet) (bits-back x) ∙ demand-three table sheet e values within .one .reads)
+    let passes = extension-passes table sheet e values within holds in
+    (extension-decoded table r m s v sheet writes room values within ∙ rw passes, ap (settings sheet) (bits-back (extension (sheet .rows) values)) ∙ demand-three table sheet e values within .one .reads)
 
 pub none-exists : NoneExists
 none-exists table sheet e none values within = by (constraint sheet values) refl
