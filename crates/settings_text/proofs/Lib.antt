@@ -5,3 +5,4 @@ pub mod Behind
 pub mod Claims
 pub mod Settled
 pub mod Uncut
+pub mod NoneLost

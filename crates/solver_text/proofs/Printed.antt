@@ -10,12 +10,8 @@ use lib.ListN.{length, drop}
 use lib.Seq.{drop-append-seam}
 use Rattle.whole.specs.Tests.{if_then_else_}
 use Rattle.sheet.specs.Acceptance.{accepted}
-use Rattle.sheet.specs.Texts.{digit, digitsIn, decimal, model, satisfiable, variableText, variableTexts, modelLine, signAt, signsIn, starts, modelClaim, claimIn}
+use Rattle.sheet.specs.Texts.{digit, digitsIn, decimal, model, satisfiable, variableText, variableTexts, modelLine, modelText, signAt, signsIn, starts, modelClaim, claimIn}
 use Rattle.solver_text.proofs.Answers.{told, Claimed, model-claimed}
-
--- the printed text of a model
-abbrev pub modelText : List ℕ → List ℕ
-modelText bs = satisfiable ++ modelLine bs
 
 -- ---- what is accepted is printed so
 
