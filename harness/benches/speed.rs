@@ -2,7 +2,7 @@
 //! between calls. Nothing is asserted. SERVER is the command of the server that makes the library's calls; CLAUSES and
 //! PLAIN_CLAUSES are those of the clause program and of the plain implementation as one, as harness/bench sets them.
 
-use harness::compare::request::{Buffers, Request};
+use harness::compare::request::Request;
 use harness::generate::tables::{products, row};
 use harness::library::{Library, Programs};
 use harness::piped::Piped;
@@ -10,7 +10,7 @@ use harness::plain::acceptance::{accept, Sheet};
 use harness::plain::calls::extend;
 use harness::plain::{lent, print, programs};
 use harness::processes::Processes;
-use harness::record::Record;
+use harness::record::{Buffers, Record};
 use std::hint::black_box;
 use std::time::Instant;
 

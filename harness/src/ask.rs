@@ -1,7 +1,7 @@
 //! A library's calls with buffers of the right lengths: the answer, or the refusal.
 
 use crate::library::Library;
-use crate::record::{Record, Refusal};
+use crate::record::{Buffers, Record, Refusal};
 
 pub struct Measured {
     pub variables: usize,
@@ -9,13 +9,7 @@ pub struct Measured {
     pub slots: usize,
 }
 
-pub struct Written {
-    pub records: Vec<Record>,
-    pub map: Vec<i32>,
-    pub slots: Vec<i32>,
-}
-
-impl Written {
+impl Buffers {
     /// Each clause's literals.
     pub fn clauses(&self) -> Vec<Vec<i32>> {
         let parts = self.slots.split_inclusive(|&l| l == 0);
@@ -42,13 +36,13 @@ pub fn measure(library: &mut dyn Library, table: &[u8]) -> Result<Measured, Refu
     answer(number, place, Measured { variables, clauses, slots })
 }
 
-fn room(library: &mut dyn Library, table: &[u8]) -> Result<Written, Refusal> {
+fn room(library: &mut dyn Library, table: &[u8]) -> Result<Buffers, Refusal> {
     let rows = table.len() / 8;
     let slots = measure(library, table)?.slots;
-    Ok(Written { records: vec![Record::default(); rows], map: vec![0; 48 * rows], slots: vec![0; slots] })
+    Ok(Buffers { records: vec![Record::default(); rows], map: vec![0; 48 * rows], slots: vec![0; slots] })
 }
 
-pub fn write(library: &mut dyn Library, table: &[u8]) -> Result<Written, Refusal> {
+pub fn write(library: &mut dyn Library, table: &[u8]) -> Result<Buffers, Refusal> {
     let mut place = 0;
     let mut lent = room(library, table)?;
     let number = library.write(table, &mut lent.records, &mut lent.map, &mut lent.slots, &mut place);
@@ -71,7 +65,7 @@ pub fn extend(library: &mut dyn Library, table: &[u8], values: &[i64]) -> Result
 /// The values of so many unknowns.
 pub fn decode(library: &mut dyn Library, table: &[u8], model: &[u8], unknowns: usize) -> Result<Vec<i64>, Refusal> {
     let (mut values, mut place) = (vec![0; unknowns], 0);
-    let Written { mut records, mut map, mut slots } = room(library, table)?;
+    let Buffers { mut records, mut map, mut slots } = room(library, table)?;
     let number = library.decode(table, &mut records, &mut map, &mut slots, model, &mut values, &mut place);
     answer(number, place, values)
 }

@@ -1,13 +1,13 @@
 //! Demand 3, from outside: that the clauses say what the sheet says, tried on a library by search and by exact fractions.
 
-use crate::ask::{self, Written};
+use crate::ask;
 use crate::fractions::{worth, Fraction};
 use crate::generate::{tables, values};
 use crate::library::Library;
 use crate::plain::acceptance::{accept, Sheet};
 use crate::plain::print::lines;
 use crate::random::Random;
-use crate::record::Refusal;
+use crate::record::{Buffers, Refusal};
 use crate::report::Report;
 use crate::search;
 use std::collections::BTreeSet;
@@ -43,7 +43,7 @@ fn number_of(model: &[u8], literals: &[i32], sort: u32) -> i64 {
 struct Case<'a> {
     table: &'a [u8],
     sheet: Sheet,
-    written: Written,
+    written: Buffers,
     clauses: Vec<Vec<i32>>,
 }
 

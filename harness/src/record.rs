@@ -1,4 +1,4 @@
-//! What is known of one row, and a refusal: the two kinds of answer that every implementation shares.
+//! What every implementation shares: a row's record, the three buffers of a table, and a refusal.
 
 /// A row's record, as `fordrambler_record` in include/fordrambler.h.
 #[derive(Clone, Copy, Debug, Default, PartialEq, Eq)]
@@ -9,6 +9,14 @@ pub struct Record {
     pub denominator: u32,
     pub first_slot: u32,
     pub slot_count: u32,
+}
+
+/// Records, map and slots, as they are lent and as writing leaves them.
+#[derive(Clone)]
+pub struct Buffers {
+    pub records: Vec<Record>,
+    pub map: Vec<i32>,
+    pub slots: Vec<i32>,
 }
 
 /// A refusal's number and its place.

@@ -1,7 +1,7 @@
 //! Every call, on random tables, values, models and texts, in buffers of all lengths.
 
 use super::any_table;
-use super::request::{Buffers, Request};
+use super::request::Request;
 use crate::generate::tables::products;
 use crate::generate::{enough, length, models, texts, values};
 use crate::library::{Library, Plain};
@@ -9,7 +9,7 @@ use crate::plain::acceptance::{accept, Counts, Sheet};
 use crate::plain::calls::extend;
 use crate::plain::lines::ROOM;
 use crate::random::Random;
-use crate::record::Record;
+use crate::record::{Buffers, Record};
 use crate::report::Report;
 use std::any::Any;
 use std::panic::{catch_unwind, AssertUnwindSafe};

@@ -2,15 +2,7 @@
 
 use crate::library::Library;
 use crate::plain::print::lines;
-use crate::record::Record;
-
-/// Records, map and slots, as they are lent.
-#[derive(Clone)]
-pub struct Buffers {
-    pub records: Vec<Record>,
-    pub map: Vec<i32>,
-    pub slots: Vec<i32>,
-}
+use crate::record::{Buffers, Record};
 
 /// A call. What it sets is filled with a pattern before.
 pub enum Request {

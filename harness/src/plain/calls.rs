@@ -4,7 +4,7 @@ use super::acceptance::{accept, Counts, Sheet};
 use super::gates::{holds, Literal};
 use super::steps::{build, Built};
 use super::values::{fits, numerators};
-use crate::record::{refuse, Record, Refusal};
+use crate::record::{refuse, Buffers, Record, Refusal};
 
 /// The lengths of records, map and slots.
 #[derive(Clone, Copy, Debug)]
@@ -14,16 +14,9 @@ pub struct Room {
     pub slots: usize,
 }
 
-/// What writing leaves.
-pub struct Written {
-    pub records: Vec<Record>,
-    pub map: Vec<i32>,
-    pub slots: Vec<i32>,
-}
-
 /// What decoding answers where it refuses nothing before 19.
 pub struct Decoded {
-    pub written: Written,
+    pub written: Buffers,
     pub values: Result<Vec<i64>, Refusal>,
 }
 
@@ -37,7 +30,7 @@ pub fn measure(table: &[u8]) -> Result<Counts, Refusal> {
     Ok(accept(table)?.counts)
 }
 
-pub fn write(table: &[u8], room: Room) -> Result<Written, Refusal> {
+pub fn write(table: &[u8], room: Room) -> Result<Buffers, Refusal> {
     let sheet = accept(table)?;
     lend(&sheet, room)?;
     let built = build(&sheet);
@@ -119,8 +112,8 @@ fn admit(sheet: &Sheet, values: &[i64]) -> Result<(), Refusal> {
     }
 }
 
-fn written(sheet: Sheet, built: &Built) -> Written {
-    Written { records: sheet.records, map: built.map(), slots: built.slots() }
+fn written(sheet: Sheet, built: &Built) -> Buffers {
+    Buffers { records: sheet.records, map: built.map(), slots: built.slots() }
 }
 
 /// One byte a variable: the unknowns' bits are the values', every other variable is its gate's value.

@@ -1,9 +1,9 @@
 //! The calls as include/fordrambler.h has them: buffers are lent, and the refusal's number is answered.
 
 use super::acceptance::Counts;
-use super::calls::{self, Room, Written};
+use super::calls::{self, Room};
 use super::{lines, solver_text};
-use crate::record::{Record, Refusal};
+use crate::record::{Buffers, Record, Refusal};
 
 /// Answers the number and sets the place; a result goes where it is wanted.
 fn answer<T>(result: Result<T, Refusal>, place: &mut u32, store: impl FnOnce(T)) -> u32 {
@@ -35,7 +35,7 @@ pub fn measure(table: &[u8], variables: &mut u32, clauses: &mut u32, slots: &mut
     })
 }
 
-fn store(written: &Written, records: &mut [Record], map: &mut [i32], slots: &mut [i32]) {
+fn store(written: &Buffers, records: &mut [Record], map: &mut [i32], slots: &mut [i32]) {
     fill(records, &written.records);
     fill(map, &written.map);
     fill(slots, &written.slots);
