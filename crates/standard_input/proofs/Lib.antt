@@ -1,0 +1,2 @@
+-- Laws of reads. Assumes nothing.
+pub mod Laws

@@ -1,0 +1,2 @@
+-- What reading a program's input comes to. Assumes nothing.
+pub mod Reads
