@@ -8,12 +8,12 @@
    What each call owes is proved: the contracts stand in crates/fordrambler_c/src/lib.rt.
 
    Every call answers FORDRAMBLER_DONE, or the number of a refusal. *place is always written: 0 when done, at a refusal what is said
-   beside its number below. At a refusal nothing else that is lent has changed; at FORDRAMBLER_CLAUSE_FALSE alone records, map and slots are as
+   beside its number below. At a refusal nothing else that is lent has changed; at FORDRAMBLER_REFUSED_CLAUSE alone records, map and slots are as
    fordrambler_write leaves them.
 
    Lengths count elements, not bytes. A buffer that is written may be longer than needed and keeps its tail. No pointer may be null, also where
-   its length is 0, and nothing that a call writes may overlap anything else that it is lent. The calls allocate nothing and keep nothing
-   from one call to the next. */
+   its length is 0, and nothing that a call writes may overlap anything else that it is lent. The calls allocate nothing, keep nothing
+   from one call to the next, and took at most 51,848 bytes of stack each for a table of 256 rows with products of 48 bits. */
 #ifndef FORDRAMBLER_H
 #define FORDRAMBLER_H
 
@@ -39,11 +39,11 @@ enum {
 
 /* A row's first byte. docs/SHEETS.md has each kind's fields. */
 enum {
-    FORDRAMBLER_KIND_TRUTH = 0x00,    /* a Boolean constant */
-    FORDRAMBLER_KIND_BOOLEAN = 0x01,  /* a Boolean unknown */
-    FORDRAMBLER_KIND_NATURAL = 0x02,  /* a natural unknown */
-    FORDRAMBLER_KIND_INTEGER = 0x03,  /* an integer unknown */
-    FORDRAMBLER_KIND_NUMBER = 0x04,   /* a number constant */
+    FORDRAMBLER_KIND_BOOLEAN_CONSTANT = 0x00,
+    FORDRAMBLER_KIND_BOOLEAN_UNKNOWN = 0x01,
+    FORDRAMBLER_KIND_NATURAL_UNKNOWN = 0x02,
+    FORDRAMBLER_KIND_INTEGER_UNKNOWN = 0x03,
+    FORDRAMBLER_KIND_NUMBER_CONSTANT = 0x04,
     FORDRAMBLER_KIND_NOT = 0x10,
     FORDRAMBLER_KIND_AND = 0x11,
     FORDRAMBLER_KIND_OR = 0x12,
@@ -57,35 +57,36 @@ enum {
     FORDRAMBLER_KIND_EQUAL = 0x31
 };
 
-/* What a call answers. Rows, lines, indices and slots count from 0; clauses count from 1. */
+/* What a call answers. Beside each refusal: given if; what *place says. Rows, lines, values and bytes count from 0, clauses from 1. */
 enum {
     FORDRAMBLER_DONE = 0,
-    /* of a table, from its first row to its last                   *place */
-    FORDRAMBLER_TABLE_LENGTH = 1,            /* 0: no bytes, or no multiple of 8 */
-    FORDRAMBLER_TOO_MANY_ROWS = 2,           /* 0: more than 256 */
-    FORDRAMBLER_KIND_UNKNOWN = 3,            /* the row */
-    FORDRAMBLER_UNUSED_NOT_ZERO = 4,         /* the row: a field without a use */
-    FORDRAMBLER_OUT_OF_RANGE = 5,            /* the row: a constant, p or a declared denominator */
-    FORDRAMBLER_NOT_EARLIER = 6,             /* the row: it refers to itself or to a later row */
-    FORDRAMBLER_WRONG_SORT = 7,              /* the row: a Boolean for a number, or a number for a Boolean */
-    FORDRAMBLER_DENOMINATOR_TOO_LARGE = 8,   /* the row: above 4,096 */
-    FORDRAMBLER_TOO_WIDE = 9,                /* the row: it, or an expansion that it needs, above 48 bits */
-    FORDRAMBLER_LAST_ROW_A_NUMBER = 10,      /* the row: the last must be Boolean */
+    /* of a table */
+    FORDRAMBLER_REFUSED_LENGTH = 1,         /* no bytes, or no multiple of 8; 0 */
+    FORDRAMBLER_REFUSED_ROWS = 2,           /* more than 256 rows; 0 */
+    FORDRAMBLER_REFUSED_KIND = 3,           /* kind unknown; the row */
+    FORDRAMBLER_REFUSED_UNUSED = 4,         /* a field without a use is not zero; the row */
+    FORDRAMBLER_REFUSED_RANGE = 5,          /* a constant, p or a declared denominator is out of range; the row */
+    FORDRAMBLER_REFUSED_REFERENCE = 6,      /* a reference does not name an earlier row; the row */
+    FORDRAMBLER_REFUSED_SORT = 7,           /* an operand is of the wrong sort; the row */
+    FORDRAMBLER_REFUSED_DENOMINATOR = 8,    /* a denominator above 4,096 is needed; the row */
+    FORDRAMBLER_REFUSED_WIDTH = 9,          /* more than 48 bits are needed, for the row or on the way; the row */
+    FORDRAMBLER_REFUSED_LAST_ROW = 10,      /* the last row is a number; the row */
     /* of buffers */
-    FORDRAMBLER_RECORDS_TOO_SHORT = 11,      /* the length needed */
-    FORDRAMBLER_MAP_TOO_SHORT = 12,          /* the length needed */
-    FORDRAMBLER_SLOTS_TOO_SHORT = 13,        /* the length needed, for the whole table */
+    FORDRAMBLER_REFUSED_RECORDS = 11,       /* records too short; the length needed */
+    FORDRAMBLER_REFUSED_MAP = 12,           /* map too short; the length needed */
+    FORDRAMBLER_REFUSED_SLOTS = 13,         /* slots too short for the whole table; the length needed */
     /* of values and models */
-    FORDRAMBLER_NUMBER_OF_VALUES = 14,       /* how many unknowns the table has */
-    FORDRAMBLER_VALUE_OUT_OF_RANGE = 15,     /* index of the first value outside its declared bits, or of a Boolean not 0 or 1 */
-    FORDRAMBLER_MODEL_LENGTH = 16,           /* how many variables the table has */
-    FORDRAMBLER_MODEL_BYTE = 17,             /* index of the first byte that is not 0 or 1 */
-    FORDRAMBLER_RESULT_TOO_SHORT = 18,       /* the length needed */
-    FORDRAMBLER_CLAUSE_FALSE = 19,           /* the first clause that the model makes false */
-    /* of texts, and of one row's clauses */
-    FORDRAMBLER_BAD_LINE = 20,               /* the line */
-    FORDRAMBLER_BAD_SOLVER_TEXT = 21,        /* the line */
-    FORDRAMBLER_NO_SUCH_ROW = 22             /* how many rows the table has */
+    FORDRAMBLER_REFUSED_VALUES = 14,        /* number of values differs from the unknowns; how many unknowns there are */
+    FORDRAMBLER_REFUSED_VALUE = 15,         /* a value outside its declared bits, or a Boolean not 0 or 1; its index */
+    FORDRAMBLER_REFUSED_MODEL_LENGTH = 16,  /* length of the model differs from the variables; how many variables there are */
+    FORDRAMBLER_REFUSED_MODEL_BYTE = 17,    /* a byte of the model is not 0 or 1; its index */
+    FORDRAMBLER_REFUSED_RESULT = 18,        /* buffer for the result too short; the length needed */
+    FORDRAMBLER_REFUSED_CLAUSE = 19,        /* the model makes a clause false; the first such clause */
+    /* of texts */
+    FORDRAMBLER_REFUSED_LINE = 20,          /* a line is not 16 digits and a line feed; the line */
+    FORDRAMBLER_REFUSED_SOLVER_TEXT = 21,   /* the solver's text is not as fordrambler_read_claim asks; the line */
+    /* of one row's clauses */
+    FORDRAMBLER_REFUSED_ROW = 22            /* there is no such row; how many rows there are */
 };
 
 /* What is known of one row. A Boolean has width and denominator 1. */

@@ -7,7 +7,7 @@
    without it. The solver is not trusted: fordrambler_decode tries its model on every clause.
 
    Exit status, as that of ./solve: 0 settings were printed; 20 none claimed; 1 the sheet is refused; 2 wrong use, or a file that can't be read or
-   written; 4 the solver can't be run, failed, gave an answer that can't be read, or a false model. */
+   made; 4 the solver can't be run, failed, gave an answer that can't be read, or a false model; 5 the settings could not be written. */
 #define _POSIX_C_SOURCE 200809L
 #include "fordrambler.h"
 
@@ -19,7 +19,7 @@
 #include <sys/wait.h>
 #include <unistd.h>
 
-enum status { SETTINGS = 0, REFUSED = 1, UNUSABLE = 2, SOLVER_FAILED = 4, NONE_CLAIMED = 20 };
+enum status { SETTINGS = 0, REFUSED = 1, UNUSABLE = 2, SOLVER_FAILED = 4, UNWRITTEN = 5, NONE_CLAIMED = 20 };
 
 /* The table and what is lent to the calls. What depends on the clauses is allocated once they are measured. */
 static uint8_t table[FORDRAMBLER_TABLE_BYTES];
@@ -55,7 +55,7 @@ static void stop(enum status status, const char *format, ...) {
 
 /* Ends at a refusal; its place is in `place`. 19 is the solver's fault; any other number here speaks of the sheet. */
 static void accept(uint32_t number) {
-    if (number == FORDRAMBLER_CLAUSE_FALSE) stop(SOLVER_FAILED, "refused %" PRIu32 " %" PRIu32 ": the solver's model is false", number, place);
+    if (number == FORDRAMBLER_REFUSED_CLAUSE) stop(SOLVER_FAILED, "refused %" PRIu32 " %" PRIu32 ": the solver's model is false", number, place);
     if (number != FORDRAMBLER_DONE) stop(REFUSED, "refused %" PRIu32 " %" PRIu32 " (docs/SHEETS.md says what this means)", number, place);
 }
 
@@ -79,7 +79,9 @@ static void read_table(const char *path) {
 
 static int kind_of(size_t row) { return table[row * FORDRAMBLER_ROW_BYTES]; }
 
-static int is_unknown(size_t row) { return kind_of(row) >= FORDRAMBLER_KIND_BOOLEAN && kind_of(row) <= FORDRAMBLER_KIND_INTEGER; }
+static int is_unknown(size_t row) {
+    return kind_of(row) >= FORDRAMBLER_KIND_BOOLEAN_UNKNOWN && kind_of(row) <= FORDRAMBLER_KIND_INTEGER_UNKNOWN;
+}
 
 /* Checks and measures the table, and writes its clauses. */
 static void write_table(void) {
@@ -185,7 +187,7 @@ static void print_values(void) {
         if (records[row].sort == FORDRAMBLER_SORT_BOOLEAN) printf("%s\n", results[row] ? "true" : "false");
         else printf("%" PRId64 "/%" PRIu32 "\n", results[row], records[row].denominator);
     }
-    if (fflush(stdout) != 0 || ferror(stdout)) stop(UNUSABLE, "the settings can't be written");
+    if (fflush(stdout) != 0 || ferror(stdout)) stop(UNWRITTEN, "the settings can't be written");
 }
 
 int main(int count, char **words) {

@@ -7,7 +7,7 @@
 //! without it. The solver is not trusted: decoding tries its model on every clause.
 //!
 //! Exit status, as that of ./solve: 0 settings were printed; 20 none claimed; 1 the sheet is refused; 2 wrong use, or a file that can't be read or
-//! written; 4 the solver can't be run, failed, gave an answer that can't be read, or a false model.
+//! made; 4 the solver can't be run, failed, gave an answer that can't be read, or a false model; 5 the settings could not be written.
 
 use std::env;
 use std::fmt::Write as _;
@@ -24,7 +24,7 @@ mod library {
     pub const TABLE_BYTES: usize = 2048;
     pub const LINE_BYTES: usize = 17;
     pub const MAP_PLACES: usize = 48;
-    pub const CLAUSE_FALSE: u32 = 19;
+    pub const REFUSED_CLAUSE: u32 = 19;
     pub const SORT_BOOLEAN: u32 = 0;
 
     /// What is known of one row.
@@ -212,6 +212,7 @@ enum Failure {
     Refused(Refusal),
     Unusable(String),
     Solver(String),
+    Unwritten(io::Error),
     NoneClaimed(String),
 }
 
@@ -229,7 +230,7 @@ impl Failure {
     /// The exit status, and the words for it. Refusal 19 is the solver's fault; any other number here speaks of the sheet.
     fn told(self) -> (u8, String) {
         match self {
-            Failure::Refused(Refusal { number, place }) if number == library::CLAUSE_FALSE => {
+            Failure::Refused(Refusal { number, place }) if number == library::REFUSED_CLAUSE => {
                 (4, format!("refused {number} {place}: the solver's model is false"))
             }
             Failure::Refused(Refusal { number, place }) => {
@@ -237,6 +238,7 @@ impl Failure {
             }
             Failure::Unusable(why) => (2, why),
             Failure::Solver(why) => (4, why),
+            Failure::Unwritten(why) => (5, format!("the settings can't be written: {why}")),
             Failure::NoneClaimed(solver) => (20, format!("none claimed: {solver} says that the clauses have no model")),
         }
     }
@@ -414,7 +416,7 @@ fn run(words: &[PathBuf]) -> Result<(), Failure> {
     let results = sheet.values(&model)?;
     let mut out = io::stdout();
     let written = out.write_all(sheet.shown(&results).as_bytes()).and_then(|()| out.flush());
-    written.map_err(|why| Failure::unusable("the settings can't be written", why))
+    written.map_err(Failure::Unwritten)
 }
 
 fn main() -> ExitCode {
