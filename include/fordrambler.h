@@ -12,8 +12,8 @@
    fordrambler_write leaves them.
 
    Lengths count elements, not bytes. A buffer that is written may be longer than needed and keeps its tail. No pointer may be null, also where
-   its length is 0, and nothing that a call writes may overlap anything else that it is lent. The calls allocate nothing, keep nothing
-   from one call to the next, and took at most 51,848 bytes of stack each for a table of 256 rows with products of 48 bits. */
+   its length is 0, and nothing that a call writes may overlap anything else that it is lent. The calls allocate nothing and keep nothing
+   from one call to the next. Each takes less than 64 KiB of stack: this is measured, not proved. */
 #ifndef FORDRAMBLER_H
 #define FORDRAMBLER_H
 
@@ -89,7 +89,8 @@ enum {
     FORDRAMBLER_REFUSED_ROW = 22            /* there is no such row; how many rows there are */
 };
 
-/* What is known of one row. A Boolean has width and denominator 1. */
+/* What is known of one row. A Boolean has width and denominator 1. The row's clauses are slot_count slots from first_slot on; the first and the last
+   clause of a table belong to no row. */
 typedef struct { uint32_t sort, width, denominator, first_slot, slot_count; } fordrambler_record;
 
 enum { FORDRAMBLER_SORT_BOOLEAN = 0, FORDRAMBLER_SORT_NUMBER = 1 };
@@ -104,9 +105,9 @@ enum { FORDRAMBLER_SORT_BOOLEAN = 0, FORDRAMBLER_SORT_NUMBER = 1 };
      model        one byte for each variable, 1 for true and 0 for false, that of variable 1 first.
                   Read: exactly so many (else 16), each 0 or 1 (else 17). Written: so many at least (else 18)
      results      one for each row                  (else 18)
-     read_lines'  table: 2,048 bytes, however short the text is (else 18)
+     table        written by the two readers of lines: 2,048 bytes, however short the text is (else 18)
 
-   Refusals come in the order of their numbers, but for those of a row, which come row by row, and for the readers of text, which meet 18 first. */
+   Of several refusals the one with the smallest number is given, but rows are gone through one by one, and the readers of text look at 18 first. */
 
 /* Fills the records. Refusals 1 to 11. */
 uint32_t fordrambler_check(const uint8_t *table, size_t table_len, fordrambler_record *records, size_t records_len, uint32_t *place);
@@ -116,7 +117,8 @@ uint32_t fordrambler_measure(const uint8_t *table, size_t table_len, uint32_t *v
                              uint32_t *place);
 
 /* Writes records, literal map and clauses. A clause is its literals and a 0, each in a slot of its own, as in a DIMACS file: 5 stands for variable
-   5, -5 for its opposite. In the map each row has its literals, lowest bit first, then zeros. Refusals 1 to 13. */
+   5, -5 for its opposite. Variable 1 stands for truth: the first clause fixes it. The last clause is the constraint. In the map each row has its
+   literals, lowest bit first and the sign last, then zeros. Refusals 1 to 13. */
 uint32_t fordrambler_write(const uint8_t *table, size_t table_len, fordrambler_record *records, size_t records_len, int32_t *map,
                            size_t map_len, int32_t *slots, size_t slots_len, uint32_t *place);
 
