@@ -16,8 +16,8 @@ use std::io::{self, Read, Write as _};
 use std::path::{Path, PathBuf};
 use std::process::{self, Command, ExitCode};
 
-/// The calls of include/fordrambler.h that are needed here, each with slices for pointers and lengths. Rust's slices are never null and never
-/// overlap, and that is all that the library asks for, so the functions are safe.
+/// The calls of include/fordrambler.h that are needed here, each with slices for pointers and lengths. Rust's slices are never null, and one that
+/// may be written overlaps no other. The library asks for nothing else, so the functions are safe.
 mod library {
     pub const ROW_BYTES: usize = 8;
     pub const MOST_ROWS: usize = 256;
