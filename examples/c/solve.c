@@ -54,7 +54,7 @@ static void stop(enum status status, const char *format, ...) {
 }
 
 /* Ends at a refusal; its place is in `place`. 19 is the solver's fault; any other number here speaks of the sheet. */
-static void accept(uint32_t number) {
+static void must_be_done(uint32_t number) {
     if (number == FORDRAMBLER_REFUSED_CLAUSE) stop(SOLVER_FAILED, "refused %" PRIu32 " %" PRIu32 ": the solver's model is false", number, place);
     if (number != FORDRAMBLER_DONE) stop(REFUSED, "refused %" PRIu32 " %" PRIu32 " (docs/SHEETS.md says what this means)", number, place);
 }
@@ -73,7 +73,7 @@ static void read_table(const char *path) {
     size_t text_len = fread(text, 1, sizeof text, file);
     if (ferror(file)) stop(UNUSABLE, "%s can't be read", path);
     fclose(file);
-    accept(fordrambler_read_lines(text, text_len, table, sizeof table, &table_len, &place));
+    must_be_done(fordrambler_read_lines(text, text_len, table, sizeof table, &table_len, &place));
     rows = table_len / FORDRAMBLER_ROW_BYTES;
 }
 
@@ -85,12 +85,13 @@ static int is_unknown(size_t row) {
 
 /* Checks and measures the table, and writes its clauses. */
 static void write_table(void) {
-    accept(fordrambler_check(table, table_len, records, rows, &place));
-    accept(fordrambler_measure(table, table_len, &variables, &clauses, &slots_len, &place));
+    must_be_done(fordrambler_check(table, table_len, records, rows, &place));
+    must_be_done(fordrambler_measure(table, table_len, &variables, &clauses, &slots_len, &place));
     slots = room(slots_len, sizeof *slots);
     model = room(variables, sizeof *model);
-    accept(fordrambler_write(table, table_len, records, rows, map, rows * FORDRAMBLER_MAP_PLACES, slots, slots_len, &place));
-    for (size_t row = 0; row < rows; row++) unknowns += is_unknown(row);
+    must_be_done(fordrambler_write(table, table_len, records, rows, map, rows * FORDRAMBLER_MAP_PLACES, slots, slots_len, &place));
+    for (size_t row = 0; row < rows; row++)
+        if (is_unknown(row)) unknowns++;
 }
 
 static void make_folder(void) {
@@ -176,9 +177,9 @@ static void solve(const char *solver) {
 
 /* The settings of the model, which must make every clause true, and the exact value of every row. */
 static void find_values(void) {
-    accept(fordrambler_decode(table, table_len, records, rows, map, rows * FORDRAMBLER_MAP_PLACES, slots, slots_len, model, variables, values,
-                              unknowns, &place));
-    accept(fordrambler_evaluate(table, table_len, values, unknowns, results, rows, &place));
+    must_be_done(fordrambler_decode(table, table_len, records, rows, map, rows * FORDRAMBLER_MAP_PLACES, slots, slots_len, model, variables,
+                                    values, unknowns, &place));
+    must_be_done(fordrambler_evaluate(table, table_len, values, unknowns, results, rows, &place));
 }
 
 static void print_values(void) {
