@@ -2,7 +2,6 @@
 use mathlib.Core.Path.{_≡_, refl, sym, _∙_, ap}
 use mathlib.Core.Bool.{Bool, true}
 use mathlib.Core.List.{List, [], _∷_, _++_, append-assoc}
-use Prim.Native.Nat.{ℕ}
 use native.Mathlib.Omega.{arith}
 use lib.ListN.{length}
 use lib.IntN.{ℤ}
@@ -16,7 +15,6 @@ use Rattle.sheet.specs.declared.Fields.{Fields}
 use Rattle.sheet.specs.declared.Record.{Record}
 use Rattle.sheet.specs.Rows.{uses}
 use Rattle.sheet.specs.Values.{Value, rowVal}
-use Rattle.sheet.specs.Acceptance.{Sheet}
 use Rattle.sheet.specs.Steps.{Cell, stepsFrom, steps, unknownBits, bitsBy, extension}
 use Rattle.sheet.proofs.Accepted.{Passed, passed-front}
 use Rattle.sheet.proofs.Meant.{ShowAll, show-snoc, row-sem}

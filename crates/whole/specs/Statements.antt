@@ -5,7 +5,7 @@ use mathlib.Core.List.{List}
 use Prim.Native.Nat.{ℕ, _≤_, _<_}
 use lib.ListN.{length}
 use lib.IntN.{ℤ}
-use Rattle.whole.specs.Bits.{toInt, Fits, bitsOf, fewest}
+use Rattle.whole.specs.Bits.{toInt, Fits, bitsOf, fewest, extended}
 use Rattle.whole.specs.Divisors.{gcd, lcm, IsGcd, IsLcm}
 
 -- k bits hold exactly the numbers that fit: whatever bits they are, they stand for such a number; each such number is what its own bits
@@ -17,6 +17,10 @@ pub record Hold (k : ℕ) : Type 0 where
 
 abbrev pub BitsHold : Type 0
 BitsHold = (k : ℕ) → 0 < k → Hold k
+
+-- a sign repeated changes no number
+abbrev pub ExtendedSame : Type 0
+ExtendedSame = (w : ℕ) (bs : List Bool) → toInt (extended w bs) ≡ toInt bs
 
 -- k bits hold z, and no fewer do
 pub record IsFewest (z : ℤ) (k : ℕ) : Type 0 where
