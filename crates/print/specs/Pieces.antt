@@ -16,7 +16,7 @@ pairLine word m n = word ++ decimal m ++ ascii " " ++ decimal n ++ ascii "\n"
 unfoldable pub dimacsPieces : (variables clauses : ℕ) → List ℤ → List (List ℕ)
 dimacsPieces variables clauses slots = pairLine (ascii "p cnf ") variables clauses ∷ map slotText slots
 
--- the pages of DIMACS text, from piece 0 on and one after the other, are the paper's text; there is a page more than slots at most
+-- as many pages as there are pieces, from piece 0 on and one after the other, are the paper's text
 abbrev pub DimacsPages : Type 0
 DimacsPages =
     (sheet : Sheet) (k room : ℕ) → 64 ≤ room → length (slotsFor (sheet .rows)) < k

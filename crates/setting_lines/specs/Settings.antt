@@ -35,7 +35,7 @@ settingPieces (suc n) i bytes vs =
 abbrev pub tablePieces : (table : List ℕ) (numerators : List ℤ) → List (List ℕ)
 tablePieces table numerators = settingPieces (length table / 8) 0 table numerators
 
--- the pages of the settings, from row 0 on and one after the other, are the paper's lines; the numerators are those that decoding writes
+-- as many pages as there are rows, from row 0 on and one after the other, are the paper's lines; the numerators are those that decoding writes
 abbrev pub SettingsPages : Type 0
 SettingsPages =
     (table : List ℕ) (sheet : Sheet) → accept table ≡ accepted sheet → (s : Assignment) (k room : ℕ) → 64 ≤ room → length table / 8 ≤ k

@@ -95,7 +95,7 @@ tracesFrom rs earlier (f ∷ rows) vs =
 unfoldable pub traces : List Record → List Fields → List ℤ → List Bool
 traces rs rows vs = true ∷ tracesFrom rs [] rows vs
 
--- the paper's one assignment that extends chosen values
+-- which is the paper's one assignment that extends chosen values
 abbrev pub ExtensionTraced : Type 0
 ExtensionTraced =
     (table : List ℕ) (sheet : Sheet) → accept table ≡ accepted sheet → (values : List ℤ) → Within (sheet .rows) values
