@@ -8,6 +8,7 @@ pub mod Multiplying
 pub mod Comparing
 pub mod Choosing
 pub mod Reading
+pub mod Exact
 pub mod Bounds
 pub mod Costs
 pub mod Lengths

@@ -1,4 +1,5 @@
--- The clause program's output by what its table comes to: the line of a refusal, or the DIMACS text of the slots. Assumes nothing.
+-- The clause program's output by what its table comes to: the line of a refusal, or the DIMACS text of the slots; and that the cut of its
+-- input changes none of it. Assumes nothing.
 use mathlib.Core.Path.{_≡_, refl, sym, ap, _∙_}
 use mathlib.Core.Bool.{false}
 use mathlib.Core.List.{List, _++_}
@@ -20,6 +21,7 @@ use Rattle.program.specs.Sheets.{sheetRead}
 use Rattle.program.proofs.Tables.{read-tells}
 use Rattle.program.proofs.Cut.{sheet-cut}
 use Rattle.clause_text.specs.Printing.{dimacsText}
+use Rattle.clause_text.specs.Uncut.{Uncut}
 
 -- the slots that are counted are those that are written
 slots-printed : (table : List ℕ) (sheet : Sheet) → accept table ≡ accepted sheet → (slots₀ : List ℤ)
@@ -43,10 +45,6 @@ module _ (input : List ℕ) where
       by (refused n p) = refl
       by (accepted l) = refl
 
-  -- the cut of the input changes no answer
-  pub uncut : clauseProgram input ≡ printed (sheetRead false input >>= text)
-  uncut = output-is ∙ ap (λ (o : Outcome Sheet). printed (o >>= text)) (sheet-cut false input)
-
   -- by what is counted
   abbrev counts : Outcome Counts
   counts = outcome giving λ sheet. sheet .counts
@@ -66,3 +64,6 @@ module _ (input : List ℕ) where
         let (table, accepts, fits) = read-tells false (inputOf input) sheet is in
         output-is ∙ ap (λ (o : Outcome Sheet). printed (o >>= text)) is
         ∙ sym (ap (λ (c : Counts). dimacsText c slots) (sym (same-accepted same)) ∙ ap (dimacsText (sheet .counts)) (f ∙ sym (left-accepted sheetSlots slots₀ is)) ∙ slots-printed table sheet accepts slots₀)
+
+pub uncut : Uncut
+uncut input = output-is input ∙ ap (λ (o : Outcome Sheet). printed (o >>= text input)) (sheet-cut false input)

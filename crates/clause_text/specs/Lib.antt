@@ -1,2 +1,3 @@
 -- What is printed of a table. Assumes nothing.
 pub mod Printing
+pub mod Uncut

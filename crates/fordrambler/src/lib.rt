@@ -1,5 +1,5 @@
 // The library's front door: the calls of document 01, none of which asks anything of its caller. Each call's contract is one relation of
-// crates/sheet/specs/Relations.antt; that no two outcomes meet it is proved in crates/promise/proofs/Outcomes.antt.
+// crates/sheet/specs/Relations.antt; that no two outcomes meet it is stated in crates/promise/specs/Outcomes.antt, and proved.
 //
 // The calls over lent records, `check`, `write` and `decode`, are a covered core, `fill` and `answer_of`, and are proved by hand. A program
 // in Rattle needs no such proof: it takes the cores, which answer the records by value (table::check_core, write::write_core,

@@ -15,8 +15,8 @@ use Rattle.sheet.specs.Acceptance.{Sheet}
 use Rattle.sheet.specs.Steps.{slotsFor}
 use Rattle.sheet.specs.Texts.{ascii, decimal, signed, slotText, slotTexts, dimacs, refusedLine}
 use Rattle.print.specs.Put.{Put}
-use Rattle.print.specs.Pages.{joined, fitting, pageText, pages}
-use Rattle.print.specs.Pieces.{pairLine, dimacsPieces}
+use Rattle.print.specs.Pages.{joined, fitting, pageText}
+use Rattle.print.specs.Pieces.{pairLine, dimacsPieces, DimacsPages}
 use Rattle.print.proofs.Decimals.{length-decimal, length-signed}
 use Rattle.print.proofs.Pages.{all-pages}
 
@@ -106,9 +106,7 @@ pub dimacs-joined : (sheet : Sheet) → joined (dimacsPieces (sheet .counts .var
 unfolding joined dimacsPieces dimacs pairLine
 dimacs-joined sheet = ap (λ (t : List ℕ). pairLine (ascii "p cnf ") (sheet .counts .variables) (sheet .counts .clauses) ++ t) (slots-joined (slotsFor (sheet .rows)))
 
--- the pages of DIMACS text, from piece 0 on, are the paper's text
-pub dimacs-pages : (sheet : Sheet) (k room : ℕ) → 64 ≤ room → length (slotsFor (sheet .rows)) < k
-    → pages k 0 (dimacsPieces (sheet .counts .variables) (sheet .counts .clauses) (slotsFor (sheet .rows))) room ≡ dimacs sheet
+pub dimacs-pages : DimacsPages
 dimacs-pages sheet k room h l =
     let slots = slotsFor (sheet .rows) in
     all-pages k 0 (dimacsPieces (sheet .counts .variables) (sheet .counts .clauses) slots) room h (omega (arith, dimacs-many (sheet .counts .variables) (sheet .counts .clauses) slots))

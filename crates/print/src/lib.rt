@@ -1,5 +1,5 @@
 // Numbers, DIMACS text and lines of one piece in print, into lent buffers. A long text is printed page by page: a page takes pieces as
-// long as 64 bytes are left for one, and the pages one after the other are the text (proofs/Pages.antt).
+// long as 64 bytes are left for one, and the pages one after the other are the text (`DimacsPages` in specs/Pieces.antt).
 ghost use mathlib.Core.Path.{_≡_};
 ghost use mathlib.Core.List.{[], _∷_, _++_};
 ghost use Prim.Native.Nat.{_≤_, _+_};

@@ -2,17 +2,19 @@
 use mathlib.Core.Path.{_≡_, refl, _∙_, ap, subst}
 use mathlib.Core.Bool.{Bool, true, false}
 use mathlib.Core.List.{List, [], _∷_, _++_}
-use Prim.Native.Nat.{ℕ, _+_, _/_, _≤_}
+use Prim.Native.Nat.{ℕ, suc, _+_, _/_, _≤_}
 use native.Mathlib.Omega.{arith}
 use lib.Dec.{eqb}
 use lib.ListN.{length, length-append}
-use lib.IntN.{pos}
+use lib.IntN.{pos, natAbs}
 use Rattle.whole.specs.Tests.{if_then_else_}
 use Rattle.whole.specs.Bits.{bit, fewest}
 use Rattle.circuit.specs.declared.Counts.{Counts}
-use Rattle.circuit.specs.Literals.{slot, slotsOf}
+use Rattle.circuit.specs.Literals.{Lit, plus, minus, slot, slotsOf}
 use Rattle.circuit.specs.Circuits.{gates, clausesFrom}
 use Rattle.circuit.specs.Counting.{_⊕_, nothing, aProduct, anExpansion, theFirst}
+use Rattle.circuit.proofs.Wellformed.{var}
+use Rattle.circuit.proofs.Bounds.{bound, Lits}
 use Rattle.circuit.proofs.Costs.{product-cost}
 use Rattle.circuit.proofs.Lengths.{slotsOf-append, cost-sound}
 use Rattle.sheet.specs.declared.Kind.{Kind}
@@ -27,7 +29,8 @@ use Rattle.sheet.proofs.Accepted.{Passed, passes-narrow, passed-many, accepted-
 use Rattle.sheet.proofs.Pages.{NarrowRecords, pages-long, narrow-cells}
 use Rattle.sheet.proofs.Counted.{cells-many}
 use Rattle.sheet.proofs.Total.{whole-table}
-use Rattle.promise.specs.Promise.{CountsAreMade, ProductMakes}
+use Rattle.promise.specs.Promise.{Among, CountsAreMade, ProductMakes}
+use Rattle.promise.proofs.Long.{all-long}
 
 -- ---- the unknowns
 
@@ -104,11 +107,25 @@ counts-are-made table sheet e =
       slot = rw (slotsOf-append but (lastClause (sheet .rows) ∷ [])) (omega (arith, length-append (slotsOf but) (slotsOf (lastClause (sheet .rows) ∷ []))));
       places = omega (arith, pages-long (cells (sheet .rows)) narrow, cells-many _ (sheet .records) (cells (sheet .rows)) (w .fit));
       records = omega arith;
+      long = all-long sheet (a .total) (a .passed);
     }
+
+-- ---- a product
+
+number-of : (l : Lit) → natAbs (slot l) ≡ suc (var l)
+number-of (plus i) = refl
+number-of (minus i) = refl
+
+among-bound : (n : ℕ) (ls : List Lit) → Among n ls → bound ls ≤ n
+among-bound n [] a = omega arith
+among-bound n (l ∷ ls) a = omega (arith, a .0, number-of l, among-bound n ls (a .1))
+
+among-lits : (n : ℕ) (ls : List Lit) → Among n ls → Lits n (length ls) ls
+among-lits n ls a = record { low = among-bound n ls a; size = refl }
 
 -- the product's formulas are what its steps make
 pub product-makes : ProductMakes
 unfolding aProduct
-product-makes n v w xs ys h p q a b =
-    let made = cost-sound (product-cost (record { place = n; asked = 0; clauses = 0; slots = 0 }) h p q a b) .1 .0 in
-    (omega (arith, made), omega (arith, made))
+product-makes n w xs ys h a b p q e =
+    let made = cost-sound (product-cost (record { place = n; asked = 0; clauses = 0; slots = 0 }) h p q (among-lits n xs a) (among-lits n ys b)) .1 .0 in
+    rw (← e) (omega (arith, made), omega (arith, made))

@@ -20,8 +20,9 @@ use Rattle.sheet.specs.Steps.{Cell, rowSteps, stepsFrom, steps, cells, clausesB
 use Rattle.sheet.specs.Calls.{part}
 use Rattle.sheet.proofs.Accepted.{Passed, Behind, passed-behind, accepted-tells}
 use Rattle.sheet.proofs.Counted.{row-cost}
-use Rattle.promise.specs.Promise.{rowSlots, PartsAreRows}
 use Rattle.sheet.proofs.Total.{whole-table}
+use Rattle.promise.specs.Promise.{rowSlots, PartsAreRows}
+use Rattle.promise.proofs.Long.{some-made}
 
 -- the gates of rows, then of more rows
 module _ (rest : List Fields) where
@@ -86,16 +87,12 @@ module _ (before : List Fields) (f : Fields) (behind : List Fields) (records : L
   unfolding sheetBefore
   first-is = whole-table sheetBefore (b .so) (b .passed) .slot ∙ sym (ap (λ (r : Record). r .first) (b .passes .isRecord))
 
-  some-made : 0 < length (gates 0 (steps before))
-  unfolding steps
-  some-made = omega arith
-
   slots-are : length (rowSlots before f) ≡ b .own .slots
   unfolding sheetBefore
   slots-are =
       let w = whole-table sheetBefore (b .so) (b .passed) in
       let start : State = record { place = length (gates 0 (steps before)); asked = 0; clauses = 0; slots = 0 } in
-      let grown = cost-sound (row-cost start some-made (b .earlier) (cells before) (w .fit) (b .so .slots) f (b .own) (b .counts) (b .passes)) .1 .0 in
+      let grown = cost-sound (row-cost start (some-made before) (b .earlier) (cells before) (w .fit) (b .so .slots) f (b .own) (b .counts) (b .passes)) .1 .0 in
       let record-slots = ap (λ (r : Record). r .slots) (b .passes .isRecord) in
       let count-slots = ap (λ (k : Counts). k .slots) (b .passes .isCounts) in
       omega (arith, grown .slots)

@@ -4,19 +4,18 @@ use mathlib.Core.Bool.{true, false}
 use mathlib.Core.List.{List, [], _∷_, _++_}
 use Prim.Native.Nat.{ℕ, _+_, _*_, _-_, _/_, _≤_, _<_}
 use lib.ListN.{length}
-use lib.IntN.{ℤ}
+use lib.IntN.{ℤ, natAbs}
 use Rattle.whole.specs.Bits.{Fits}
-use Rattle.circuit.specs.Literals.{Lit, slotsOf, Assignment, clauseTrue, allTrue}
-use Rattle.circuit.specs.Circuits.{gates, clausesFrom}
+use Rattle.circuit.specs.Literals.{Lit, slot, slotsOf, Assignment, clauseTrue, allTrue}
+use Rattle.circuit.specs.Circuits.{Circuit, ret, gates, out, clausesFrom}
 use Rattle.circuit.specs.Numbers.{product}
-use Rattle.circuit.proofs.Bounds.{Lits}
 use Rattle.sheet.specs.declared.Kind.{Kind}
 use Rattle.sheet.specs.declared.Kind.the-variants.{BooleanConstant, BooleanUnknown, NaturalUnknown, IntegerUnknown, NumberConstant, Not, And, Or, Implies, Iff, Sum, Difference, Product, Choice, Greater, Equal}
 use Rattle.sheet.specs.declared.Fields.{Fields}
 use Rattle.sheet.specs.declared.Record.{Record}
 use Rattle.sheet.specs.Values.{Value, boolean, fraction, valueAt, shared, over, rowValues, unknowns, Within}
 use Rattle.sheet.specs.Acceptance.{meeting, widthOver, recordAt, accepted, Sheet, accept}
-use Rattle.sheet.specs.Steps.{rowSteps, steps, cells, clausesButLast, lastClause, clauses, slotsFor, mapFor, readRows, settings, extension}
+use Rattle.sheet.specs.Steps.{Cell, brought, cellAt, rowSteps, steps, cells, clausesButLast, lastClause, clauses, slotsFor, mapFor, readRows, settings, extension}
 use Rattle.sheet.specs.Calls.{unknownCount, writing, decoding, modelOf, settingsOf, constraint, part}
 
 -- an assignment carries values: it meets every clause but the last, and the unknowns' literals read as these values
@@ -100,6 +99,25 @@ NoneExists =
     → ((s : Assignment) → length s ≡ sheet .counts .variables → allTrue s (clauses (sheet .rows)) ≡ false)
     → (values : List ℤ) → Within (sheet .rows) values → constraint sheet values ≡ false
 
+-- two numbers brought to one denominator
+abbrev pub bothBrought : (a b : Cell) → Circuit (List Lit × List Lit)
+bothBrought a b = brought a b (λ xs ys. ret (xs, ys))
+
+-- the literals of each, behind so many variables, are as many as acceptance counts it at
+abbrev pub LongBoth : List Record → (made : ℕ) → List Cell → List ℕ → Type 0
+LongBoth records made cs [] = Unit {0}
+LongBoth records made cs (x ∷ []) = Unit {0}
+LongBoth records made cs (x ∷ y ∷ xs) =
+    let (left, right) = out made (bothBrought (cellAt cs x) (cellAt cs y)) in
+    (length left ≡ widthOver (meeting (recordAt records x) (recordAt records y)) (recordAt records x))
+    × (length right ≡ widthOver (meeting (recordAt records x) (recordAt records y)) (recordAt records y))
+
+-- a row of fields f that comes behind others: its literals are as many as its record's width; and so are, by the widths that acceptance
+-- counts, those of the two numbers that it first brings together
+pub record Long (sheet : Sheet) (before : List Fields) (f : Fields) : Type 0 where
+  pub own : length (cellAt (cells (sheet .rows)) (length before) .literals) ≡ recordAt (sheet .records) (length before) .width
+  pub expanded : LongBoth (sheet .records) (length (gates 0 (steps before))) (cells before) (broughtBy (f .kind) (f .x) (f .y) (f .z))
+
 -- what acceptance counts is what the steps make
 pub record Counted (sheet : Sheet) : Type 0 where
   pub unknown : sheet .counts .unknowns ≡ length (unknowns (sheet .rows))
@@ -108,6 +126,8 @@ pub record Counted (sheet : Sheet) : Type 0 where
   pub slot : sheet .counts .slots ≡ length (slotsFor (sheet .rows))
   pub places : length (mapFor (sheet .rows)) ≡ 48 * length (sheet .rows)
   pub records : length (sheet .records) ≡ length (sheet .rows)
+  -- no row has more or fewer literals than its record's width, and no expansion than acceptance gave it
+  pub long : (before : List Fields) (f : Fields) (after : List Fields) → sheet .rows ≡ before ++ f ∷ after → Long sheet before f
 
 -- the slots of a row that comes behind others: those of the gates that its steps make
 abbrev pub rowSlots : (before : List Fields) → Fields → List ℤ
@@ -124,10 +144,14 @@ PartsAreRows =
 abbrev pub CountsAreMade : Type 0
 CountsAreMade = (table : List ℕ) (sheet : Sheet) → accept table ≡ accepted sheet → Counted sheet
 
--- a product of numbers of v and w bits, whose literals are those of n variables made before, makes 2W² - W variables and
--- (17W² - 11W)/2 clauses, W = v + w
+-- each literal is one of the variables 1 to n, or its negation
+abbrev pub Among : (n : ℕ) → List Lit → Type 0
+Among n [] = Unit {0}
+Among n (l ∷ ls) = (natAbs (slot l) ≤ n) × Among n ls
+
+-- a product of numbers whose widths together are w, their literals among n variables made before, makes 2w² - w variables and
+-- (17w² - 11w)/2 clauses
 abbrev pub ProductMakes : Type 0
 ProductMakes =
-    (n v w : ℕ) (xs ys : List Lit) → 0 < n → 0 < v → 0 < w → Lits n v xs → Lits n w ys
-    → (length (gates n (product xs ys)) ≡ 2 * ((v + w) * (v + w)) - (v + w))
-    × (length (clausesFrom n (gates n (product xs ys))) ≡ (17 * ((v + w) * (v + w)) - 11 * (v + w)) / 2)
+    (n w : ℕ) (xs ys : List Lit) → 0 < n → Among n xs → Among n ys → 0 < length xs → 0 < length ys → length xs + length ys ≡ w
+    → (length (gates n (product xs ys)) ≡ 2 * (w * w) - w) × (length (clausesFrom n (gates n (product xs ys))) ≡ (17 * (w * w) - 11 * w) / 2)

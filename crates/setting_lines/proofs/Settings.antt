@@ -2,7 +2,7 @@
 use mathlib.Core.Path.{_≡_, refl, sym, ap, _∙_}
 use mathlib.Core.Bool.{Bool, true, false, false≢true}
 use mathlib.Core.List.{List, [], _∷_, _++_, append-assoc, append-nil}
-use Prim.Native.Nat.{ℕ, zero, suc, _+_, _/_, _≤_}
+use Prim.Native.Nat.{ℕ, zero, suc, _+_, _/_}
 use native.Mathlib.Omega.{arith}
 use lib.IntN.{ℤ}
 use lib.ListN.{length, take, drop}
@@ -24,8 +24,8 @@ use Rattle.sheet.proofs.Accepted.{Passed, accepted-tells}
 use Rattle.sheet.proofs.Walked.{rows-at-most}
 use Rattle.sheet.proofs.Counted.{cells-many}
 use Rattle.sheet.proofs.Total.{whole-table}
-use Rattle.print.specs.Pages.{joined, pages}
-use Rattle.setting_lines.specs.Settings.{settingLine, settingPieces, tablePieces}
+use Rattle.print.specs.Pages.{joined}
+use Rattle.setting_lines.specs.Settings.{settingLine, settingPieces, tablePieces, SettingsPages}
 use Rattle.print.proofs.Pages.{all-pages}
 use Rattle.setting_lines.proofs.Rows.{pieces-many}
 
@@ -123,9 +123,7 @@ settings-joined table sheet e s =
     let m : length (sheet .rows) ≡ length table / 8 = over-many s (sheet .rows) (sheet .records) k ∙ a .many in
     rw (a .read) (lines-joined s (length table / 8) 0 table (sheet .records) (cells (rowsOf (length table / 8) table)) (rw (a .read) at m) (rw (a .read) at k) (rw (a .read) at l))
 
--- the pages of the settings, from row 0 on, are the paper's lines; the numerators are those that decoding writes
-pub settings-pages : (table : List ℕ) (sheet : Sheet) → accept table ≡ accepted sheet → (s : Assignment) (k room : ℕ) → 64 ≤ room → length table / 8 ≤ k
-    → pages k 0 (tablePieces table (settings sheet s)) room ≡ settingLines 0 (sheet .rows) (readRows sheet s)
+pub settings-pages : SettingsPages
 settings-pages table sheet e s k room h l =
     let n = length table / 8 in
     all-pages k 0 (tablePieces table (settings sheet s)) room h (rw (pieces-many n 0 table (settings sheet s)) (omega arith)) ∙ settings-joined table sheet e s

@@ -16,14 +16,16 @@ use Rattle.sheet.specs.Steps.{extension}
 use Rattle.sheet.specs.Calls.{modelOf, constraint}
 use Rattle.sheet.specs.Texts.{ascii, Bytes, linesOf, tableIn, dimacs, settingLines, model, modelText, claimIn}
 use Rattle.sheet.specs.Programs.{inputOf, settled, clauseProgram, settingsProgram}
+use Rattle.sheet.specs.Statements.{Rows}
 use Rattle.sheet.proofs.Accepted.{IsAccepted, accepted-tells}
-use Rattle.sheet.proofs.Lines.{Rows, table-long, table-bytes, table-read, table-ended}
+use Rattle.sheet.proofs.Lines.{table-long, table-bytes, table-read, table-ended}
 use Rattle.promise.specs.Promise.{Promise}
 use Rattle.promise.specs.Across.{rowsIn}
 use Rattle.promise.proofs.Promise.{demand-three}
 use Rattle.promise.proofs.Assessor.{bits-back, extension-passes}
 use Rattle.program.specs.Sheets.{sheetOf}
-use Rattle.solver_text.proofs.Printed.{Bits, printed-accepted}
+use Rattle.solver_text.specs.Printed.{Bits}
+use Rattle.solver_text.proofs.Printed.{printed-accepted}
 use Rattle.settings_text.specs.Replies.{wholeText}
 use Rattle.settings_text.specs.NoneLost.{ClausesPrinted, PrintedNoneLost}
 use Rattle.settings_text.proofs.Uncut.{uncut}

@@ -19,6 +19,7 @@ use Rattle.sheet.specs.Programs.{inputOf, sheetIn, printed, settled, settingsPr
 use Rattle.print.proofs.Decimals.{length-one, length-more}
 use Rattle.program.proofs.Cut.{drop-cut, read-cut, found-cut}
 use Rattle.settings_text.specs.Replies.{wholeText}
+use Rattle.settings_text.specs.Uncut.{Uncut}
 use Rattle.settings_text.proofs.Variables.{taken-few}
 use Rattle.settings_text.proofs.Behind.{read-near}
 use Rattle.settings_text.proofs.Claims.{signs-many}
@@ -112,12 +113,11 @@ module _ (input : List ℕ) where
           let near = read-near input l e .1 in
           rw (drop-cut (l .rest) 65536 input, claim-cut (sheet .counts .variables) (65536 - l .rest) (drop (l .rest) input) few (omega (arith, near)))
 
-  -- the cut of the input changes no answer
-  pub uncut : settingsProgram input ≡ wholeText input
-  unfolding wholeText
-  uncut = output-is ∙ rw (read-cut true input) (by (readLines true input 2048) refl)
-    where
-      by : (o : Outcome LinesFound) → readLines true input 2048 ≡ o
-          → printed (o >>= (λ l. answerOf (inputOf input) l (sheetIn (inputOf input) l))) ≡ printed (o >>= (λ l. answerOf input l (sheetIn input l)))
-      by (refused n p) e = refl
-      by (accepted l) e = ap printed (lines-uncut l e)
+pub uncut : Uncut
+unfolding wholeText
+uncut input = output-is input ∙ rw (read-cut true input) (by (readLines true input 2048) refl)
+  where
+    by : (o : Outcome LinesFound) → readLines true input 2048 ≡ o
+        → printed (o >>= (λ l. answerOf input (inputOf input) l (sheetIn (inputOf input) l))) ≡ printed (o >>= (λ l. answerOf input input l (sheetIn input l)))
+    by (refused n p) e = refl
+    by (accepted l) e = ap printed (lines-uncut input l e)

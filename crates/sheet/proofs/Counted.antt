@@ -95,7 +95,7 @@ module _ (s : State) (h : 0 < s .place) (rs : List Record) (cs : List Cell) (ok 
   same-least x y = ap₂ lcm (at x .under) (at y .under)
 
   -- both numbers over one denominator, the first before the second
-  brought-cost : {A : Type 0} {Q : State → A → Type 0} (x y : ℕ) (made : List Lit → List Lit → Circuit A)
+  pub brought-cost : {A : Type 0} {Q : State → A → Type 0} (x y : ℕ) (made : List Lit → List Lit → Circuit A)
       → ((m : State) (xs ys : List Lit) → Spent s m (bringing (recordAt rs x) (recordAt rs y)) → 0 < m .place → Lits (m .place) (widthOver (meetingAt rs x y) (recordAt rs x)) xs → Lits (m .place) (widthOver (meetingAt rs x y) (recordAt rs y)) ys → Cost m (made xs ys) Q)
       → Cost s (brought (cellAt cs x) (cellAt cs y) made) Q
   brought-cost {Q = Q} x y made f =

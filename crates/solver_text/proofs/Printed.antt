@@ -10,7 +10,8 @@ use lib.ListN.{length, drop}
 use lib.Seq.{drop-append-seam}
 use Rattle.whole.specs.Tests.{if_then_else_}
 use Rattle.sheet.specs.Acceptance.{accepted}
-use Rattle.sheet.specs.Texts.{digit, digitsIn, decimal, model, satisfiable, variableText, variableTexts, modelLine, modelText, signAt, signsIn, starts, modelClaim, claimIn}
+use Rattle.sheet.specs.Texts.{digit, digitsIn, decimal, model, satisfiable, variableText, variableTexts, modelLine, signAt, signsIn, starts, modelClaim, claimIn}
+use Rattle.solver_text.specs.Printed.{AcceptedPrinted, Bits, PrintedAccepted}
 use Rattle.solver_text.proofs.Answers.{told, Claimed, model-claimed}
 
 -- ---- what is accepted is printed so
@@ -34,7 +35,7 @@ exact (a ∷ p) (b ∷ text) e l =
     let (same, rest) = and-eq-true-iff (eqb a b) (starts p text) .0 e in
     ap₂ _∷_ (sym (eqb-true a b same)) (exact p text rest (omega arith))
 
-pub accepted-printed : (n : ℕ) (text bs : List ℕ) → claimIn n text ≡ accepted (model bs) → text ≡ modelText bs
+pub accepted-printed : AcceptedPrinted
 accepted-printed n text bs e =
     let c : Claimed n text = model-claimed n text (rw e) in
     let same : told n text ≡ bs = let q = sym (c .outcome) ∙ e in cc in
@@ -68,11 +69,6 @@ variable-sign zero k text h = refl
 variable-sign (suc zero) k text h = rw (append-assoc (digitsIn 20 k) (32 ∷ []) text) (number-sign 19 k (32 ∷ text))
 variable-sign (suc (suc b)) k text h = absurd (omega arith)
 
--- every byte is 0 or 1
-abbrev pub Bits : List ℕ → Type 0
-Bits [] = Unit {0}
-Bits (b ∷ bs) = (b ≤ 1) × Bits bs
-
 -- the signs of a model's line tell the model
 signs-back : (bs : List ℕ) (k : ℕ) → Bits bs → signsIn (length bs) k (variableTexts bs k) ≡ bs
 unfolding signsIn variableTexts
@@ -88,6 +84,6 @@ starts-self (a ∷ p) = rw (eq-eqb a a refl) (starts-self p)
 right-line : (bs : List ℕ) → modelClaim bs (modelLine bs) ≡ accepted (model bs)
 right-line bs = rw (starts-self (modelLine bs), eq-eqb (length (modelLine bs)) (length (modelLine bs)) refl)
 
-pub printed-accepted : (bs : List ℕ) → Bits bs → claimIn (length bs) (modelText bs) ≡ accepted (model bs)
+pub printed-accepted : PrintedAccepted
 unfolding claimIn starts modelLine
 printed-accepted bs h = rw (signs-back bs 1 h) (right-line bs)

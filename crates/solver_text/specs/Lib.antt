@@ -1,2 +1,3 @@
 -- What the reader of the solver's text promises step by step. Assumes nothing.
 pub mod Passing
+pub mod Printed

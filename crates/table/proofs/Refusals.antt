@@ -1,5 +1,5 @@
 -- A refusal of acceptance is one of 1 to 10: of a reading 3 or 4, of a verdict up to 9. Assumes nothing.
-use mathlib.Core.Path.{_≡_, subst}
+use mathlib.Core.Path.{subst}
 use mathlib.Core.Bool.{Bool, true, false, not}
 use mathlib.Core.List.{List, [], _∷_, _++_}
 use Prim.Native.Nat.{ℕ, zero, suc, _-_, _/_, _%_, _≤_, _<_}
@@ -19,6 +19,7 @@ use Rattle.sheet.specs.declared.Verdict.{Verdict}
 use Rattle.sheet.specs.declared.Verdict.the-variants.{Pass, Stop}
 use Rattle.sheet.specs.Rows.{kindOf, uses, unused, allZero, fields, named, readRow}
 use Rattle.sheet.specs.Acceptance.{outOfRange, sortsIn, someNotEarlier, someOfWrongSort, planBy, stop_if_else_, recordAt, judge, Outcome, refused, accepted, Sheet, onward, walk, accept}
+use Rattle.table.specs.Refusals.{Refusals}
 
 abbrev pub OneToTen : ℕ → Type 0
 OneToTen n = (0 < n) × (n ≤ 10)
@@ -94,5 +95,5 @@ in-outcome table =
     (if-refuses (not (eqb (length table % 8) 0)) 1 0 _ (omega arith, omega arith)
     (if-refuses (ltb 256 (length table / 8)) 2 0 _ (omega arith, omega arith) (in-walk (length table / 8) table [] theFirst table)))
 
-pub refusals : (table : List ℕ) (n p : ℕ) → accept table ≡ refused n p → (0 < n) × (n ≤ 10)
+pub refusals : Refusals
 refusals table n p e = subst InOutcome e (in-outcome table)

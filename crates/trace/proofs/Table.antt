@@ -2,7 +2,6 @@
 use mathlib.Core.Path.{_≡_, refl, sym, _∙_, ap}
 use mathlib.Core.Bool.{Bool, true}
 use mathlib.Core.List.{List, [], _∷_, _++_, append-assoc}
-use Prim.Native.Nat.{ℕ}
 use native.Mathlib.Omega.{arith}
 use lib.ListN.{length}
 use lib.IntN.{ℤ}
@@ -15,14 +14,13 @@ use Rattle.circuit.proofs.Assignments.{frees, run-length, run-frees, run-holds}
 use Rattle.sheet.specs.declared.Fields.{Fields}
 use Rattle.sheet.specs.declared.Record.{Record}
 use Rattle.sheet.specs.Rows.{uses}
-use Rattle.sheet.specs.Values.{Value, rowVal, Within}
-use Rattle.sheet.specs.Acceptance.{accepted, Sheet, accept}
+use Rattle.sheet.specs.Values.{Value, rowVal}
 use Rattle.sheet.specs.Steps.{Cell, stepsFrom, steps, unknownBits, bitsBy, extension}
 use Rattle.sheet.proofs.Accepted.{Passed, passed-front}
 use Rattle.sheet.proofs.Meant.{ShowAll, show-snoc, row-sem}
 use Rattle.promise.proofs.Choices.{first, after, AllIn, within-all, all-bits-many}
 use Rattle.promise.proofs.Promise.{known}
-use Rattle.trace.specs.Traces.{traceOf, tracesFrom, traces}
+use Rattle.trace.specs.Traces.{traceOf, tracesFrom, traces, ExtensionTraced}
 use Rattle.trace.proofs.Tracing.{Tracing, trace-ret, trace-new, trace-bind, trace-sem, trace-sound}
 use Rattle.trace.proofs.Fitting.{FitAll, fit-snoc}
 use Rattle.trace.proofs.Earlier.{trace-front}
@@ -44,8 +42,7 @@ table-traced s et l (f ∷ rows) rs cs vs h g so records total p values a =
     (trace-bind (trace-sem (row-traced s et rest rs cs vs h g (so .slots) f r k (p .2) (first values)) (row-sem s et rest rs cs vs h (so .slots) f r k (p .2) (first values) (a .0)))
     (λ c (fits, shows). table-traced s et l rows (rs ++ r ∷ []) (cs ++ c ∷ []) (vs ++ v ∷ []) (show-snoc s rs cs vs r c v h shows) (fit-snoc rs cs r c g fits) (so ⊕ k) records total (p .3) (after f values) (a .1)))
 
-pub extension-traced : (table : List ℕ) (sheet : Sheet) → accept table ≡ accepted sheet → (values : List ℤ) → Within (sheet .rows) values
-    → extension (sheet .rows) values ≡ traces (sheet .records) (sheet .rows) values
+pub extension-traced : ExtensionTraced
 unfolding extension steps traces
 extension-traced table sheet e values within =
     let k = known table sheet e in

@@ -1,5 +1,6 @@
 -- What each gate of a row holds, in order of making, from the exact values and the widths of the rows that it refers to. No literal is
 -- needed for it: the bits of a row are those of its value. Assumes nothing.
+use mathlib.Core.Path.{_≡_}
 use mathlib.Core.Bool.{Bool, true, false, not, _&&_}
 use mathlib.Core.List.{List, [], _∷_, _++_}
 use Prim.Native.Nat.{ℕ, zero, suc, _+_, _/_}
@@ -14,8 +15,9 @@ use Rattle.sheet.specs.declared.Kind.the-variants.{BooleanConstant, BooleanUnkn
 use Rattle.sheet.specs.declared.Fields.{Fields}
 use Rattle.sheet.specs.declared.Record.{Record}
 use Rattle.sheet.specs.Rows.{uses, isUnknown}
-use Rattle.sheet.specs.Values.{Value, truthOf, numerator, over, valueAt, rowVal}
-use Rattle.sheet.specs.Acceptance.{meeting, larger, recordAt}
+use Rattle.sheet.specs.Values.{Value, truthOf, numerator, over, valueAt, rowVal, Within}
+use Rattle.sheet.specs.Acceptance.{meeting, larger, recordAt, accepted, Sheet, accept}
+use Rattle.sheet.specs.Steps.{extension}
 
 -- x and y are added in w places: for each t, the sum's bit and the new carry
 abbrev pub adding : (carry : Bool) → (w : ℕ) → (x y : ℤ) → List Bool
@@ -92,3 +94,9 @@ tracesFrom rs earlier (f ∷ rows) vs =
 -- of an accepted sheet: truth, then every row
 unfoldable pub traces : List Record → List Fields → List ℤ → List Bool
 traces rs rows vs = true ∷ tracesFrom rs [] rows vs
+
+-- which is the paper's one assignment that extends chosen values
+abbrev pub ExtensionTraced : Type 0
+ExtensionTraced =
+    (table : List ℕ) (sheet : Sheet) → accept table ≡ accepted sheet → (values : List ℤ) → Within (sheet .rows) values
+    → extension (sheet .rows) values ≡ traces (sheet .records) (sheet .rows) values
