@@ -1,6 +1,6 @@
--- DIMACS CNF, read by the format's own rules, whoever wrote it: comment lines, which begin with `c`; a line `p cnf VARIABLES CLAUSES`; then whole
--- numbers between white space: a variable, negative where it is negated, or the 0 that ends each clause. Any other text is `none`. Assumes
--- nothing.
+-- DIMACS CNF, read by the format's own rules, whoever wrote it: comment lines, which begin with `c`; a line `p cnf VARIABLES CLAUSES`; then
+-- whole numbers with white space between them, each a variable, with a minus where it is negated, or the 0 that ends a clause. A text
+-- that is not so is `none`. Assumes nothing.
 use mathlib.Core.Bool.{Bool, true, false, not, _&&_, _||_}
 use mathlib.Core.List.{List, [], _∷_}
 use mathlib.Core.Option.{Option, none, some, Option·map, bind as _>>=_}
@@ -45,8 +45,8 @@ unfoldable pub integer : List ℕ → Option ℤ
 integer [] = none
 integer (b ∷ bs) = if eqb b 45 then Option·map (λ n. negℤ (pos n)) (natural bs) else Option·map pos (natural (b ∷ bs))
 
--- a number in front of clauses: 0 ends a clause before them; a literal of one of so many variables is the first of the first, and of
--- none where no 0 follows
+-- a number, and the clauses that begin behind it: 0 ends a clause; any other number is a literal in front of the first of them, of one
+-- of so many variables, and wrong where no 0 follows
 abbrev pub inFront : (variables : ℕ) → List Clause → ℤ → Option (List Clause)
 inFront v cs (pos zero) = some ([] ∷ cs)
 inFront v [] (pos (suc i)) = none
@@ -61,7 +61,7 @@ clausesSpelt v (w ∷ ws) = do
   z ← integer w
   inFront v cs z
 
--- the text behind comment lines, `inside` one or not; its first line; whether that is `p cnf` and two words
+-- the text behind comment lines, from `inside` one or not; the first line of a text; whether its words are `p`, `cnf` and two more
 unfoldable pub behindComments : (inside : Bool) → List ℕ → List ℕ
 behindComments inside [] = []
 behindComments true (b ∷ text) = behindComments (not (eqb b 10)) text
@@ -77,7 +77,7 @@ same a b = starts a b && starts b a
 abbrev pub isHeader : List (List ℕ) → Bool
 isHeader ws = eqb (length ws) 4 && same (ascii "p") (getD ws 0 []) && same (ascii "cnf") (getD ws 1 [])
 
--- the number of variables and the clauses, as many as the first line says
+-- the number of variables and the clauses, exactly as many as the first line says
 unfoldable pub readDimacs : List ℕ → Option (ℕ × List Clause)
 readDimacs text =
     let body = behindComments false text in
