@@ -166,6 +166,7 @@ examples =
     ∷ (map pos (settingsProgram []) gives map pos (ascii "refused 1 0\n"))
     ∷ (map pos (clauseProgram (ascii "0100000000000000\n010000000000000A\n")) gives map pos (ascii "refused 20 1\n"))
     ∷ (map pos (clauseProgram (ascii "0100000000000000")) gives map pos (ascii "refused 20 0\n"))
+    ∷ (map pos (clauseProgram (ascii "0100000000000000\n\n")) gives map pos (ascii "refused 20 1\n"))
     -- a 2-bit natural above 2: its sizes, accepted and made; of 0, 1, 2 and 3 only 3 is a solution
     ∷ (sizes aboveTwo gives pos 9 ∷ pos 26 ∷ pos 100 ∷ [])
     ∷ (made aboveTwo gives pos 9 ∷ pos 26 ∷ pos 100 ∷ [])
