@@ -1,18 +1,15 @@
 -- Clauses in print are read back as the clauses. Assumes nothing.
-use mathlib.Core.Path.{_≡_, sym, ap, _∙_, subst}
+use mathlib.Core.Path.{sym, ap, _∙_}
 use mathlib.Core.List.{List}
 use mathlib.Core.Option.{Option·some-injective}
 use Prim.Native.Nat.{ℕ}
 use native.Mathlib.Omega.{arith}
-use Rattle.circuit.specs.declared.Counts.{Counts}
 use Rattle.circuit.specs.Literals.{Clause}
 use Rattle.sheet.specs.Steps.{clauses, slotsFor}
 use Rattle.sheet.specs.Texts.{dimacs}
 use Rattle.sheet.specs.Dimacs.{readDimacs}
-use Rattle.sheet.proofs.Accepted.{accepted-tells}
 use Rattle.sheet.proofs.Few.{counts-few}
-use Rattle.sheet.proofs.Total.{whole-table}
-use Rattle.sheet.proofs.Naming.{AllNamed, clauses-named}
+use Rattle.sheet.proofs.Naming.{clauses-named}
 use Rattle.sheet.proofs.Dimacs.{dimacs-back}
 use Rattle.promise.specs.ReadBack.{DimacsReadBack, DimacsTellsTheClauses}
 use Rattle.promise.proofs.Counts.{counts-are-made}
@@ -20,12 +17,9 @@ use Rattle.promise.proofs.Counts.{counts-are-made}
 pub dimacs-read-back : DimacsReadBack
 unfolding dimacs slotsFor
 dimacs-read-back table sheet e =
-    let a = accepted-tells table sheet e in
     let few = counts-few table sheet e in
     let made = counts-are-made table sheet e .clause in
-    let v : a .total .variables ≡ sheet .counts .variables = omega (arith, ap (λ (k : Counts). k .variables) (a .counted)) in
-    let named = subst (λ (n : ℕ). AllNamed n (clauses (sheet .rows))) v (clauses-named sheet (a .total) (whole-table sheet (a .total) (a .passed))) in
-    rw made (dimacs-back (sheet .counts .variables) (clauses (sheet .rows)) (omega (arith, few)) (omega (arith, few, made)) named)
+    rw made (dimacs-back (sheet .counts .variables) (clauses (sheet .rows)) (omega (arith, few)) (omega (arith, few, made)) (clauses-named table sheet e))
 
 pub dimacs-tells-the-clauses : DimacsTellsTheClauses
 dimacs-tells-the-clauses table₁ table₂ sheet₁ sheet₂ e₁ e₂ same =
