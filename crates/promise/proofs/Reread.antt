@@ -2,12 +2,11 @@
 use mathlib.Core.Path.{_≡_, refl, sym, _∙_, ap, ap₂}
 use mathlib.Core.Bool.{Bool, true, false}
 use mathlib.Core.List.{List, [], _∷_, _++_, append-assoc}
-use Prim.Native.Nat.{ℕ, zero, suc, _+_, _*_, _-_, _/_, _%_, _^_, _≤_, _<_}
+use mathlib.Core.Option.{Option·some-injective}
+use Prim.Native.Nat.{ℕ, _+_, _-_, _^_, _≤_, _<_}
 use native.Mathlib.Omega.{arith}
-use borrow.Author.Tests.{lt-ltb, le-ltb, ne-eqb, ltb-true}
-use lib.Dec.{eqb, ltb}
 use lib.Pow.{pow-mono}
-use lib.IntN.{ℤ, pos, negsuc, negℤ, natAbs}
+use lib.IntN.{ℤ, pos, negsuc, natAbs}
 use lib.Signed.{mag}
 use Rattle.whole.specs.Tests.{if_then_else_}
 use Rattle.whole.proofs.Bits.{fits-iff}
@@ -17,7 +16,9 @@ use Rattle.sheet.specs.declared.Record.{Record}
 use Rattle.sheet.specs.Rows.{uses, isUnknown}
 use Rattle.sheet.specs.Values.{Value, boolean, fraction, numerator, denominator, rowValues, Within}
 use Rattle.sheet.specs.Steps.{ofUnknowns}
-use Rattle.sheet.specs.Texts.{ascii, digit, digitsIn, decimal, signed, settingLines}
+use Rattle.sheet.specs.Texts.{ascii, decimal, signed, settingLines}
+use Rattle.sheet.specs.Dimacs.{integer}
+use Rattle.sheet.proofs.Numerals.{Above, decimal-above, signed-above, integer-back}
 use Rattle.sheet.proofs.Widths.{Holds, AllHold}
 use Rattle.sheet.proofs.Pages.{NarrowRecords}
 use Rattle.promise.specs.Printed.{PrintedTellsTheValues}
@@ -25,72 +26,6 @@ use Rattle.promise.proofs.Counts.{passed-narrow}
 use Rattle.promise.proofs.Choices.{within-all, values-new, chosen-found}
 use Rattle.promise.proofs.Fitting.{table-fits}
 use Rattle.promise.proofs.Promise.{Known, known}
-
--- ---- numbers
-
--- bytes above a mark
-abbrev Above : ℕ → List ℕ → Type 0
-Above m [] = Unit {0}
-Above m (b ∷ bs) = (m < b) × Above m bs
-
-above-append : (m : ℕ) (xs ys : List ℕ) → Above m xs → Above m ys → Above m (xs ++ ys)
-above-append m [] ys h k = k
-above-append m (x ∷ xs) ys h k = (h .0, above-append m xs ys (h .1) k)
-
-digits-above : (m k n : ℕ) → m < 48 → Above m (digitsIn k n)
-unfolding digitsIn
-digits-above m zero n h = tt
-digits-above m (suc k) n h = by (ltb n 10) (digits-above m k (n / 10) h)
-  where
-    last : Above m (digit (n % 10) ∷ [])
-    last = rw (lt-ltb (n % 10) 10 (omega arith)) (omega arith, tt)
-
-    by : (b : Bool) → Above m (digitsIn k (n / 10)) → Above m ((if b then [] else digitsIn k (n / 10)) ++ digit (n % 10) ∷ [])
-    by true q = last
-    by false q = above-append m (digitsIn k (n / 10)) (digit (n % 10) ∷ []) q last
-
--- the number that digits tell behind n
-abbrev tells : ℕ → List ℕ → ℕ
-tells n [] = n
-tells n (b ∷ bs) = tells (n * 10 + (b - 48)) bs
-
-tells-append : (n : ℕ) (xs ys : List ℕ) → tells n (xs ++ ys) ≡ tells (tells n xs) ys
-tells-append n [] ys = refl
-tells-append n (x ∷ xs) ys = tells-append (n * 10 + (x - 48)) xs ys
-
-digits-tell : (k n : ℕ) → n < 10 ^ k → tells 0 (digitsIn k n) ≡ n
-unfolding digitsIn
-digits-tell zero n h = omega arith
-digits-tell (suc k) n h = by (ltb n 10) refl (digits-tell k (n / 10) (omega arith))
-  where
-    by : (b : Bool) → ltb n 10 ≡ b → tells 0 (digitsIn k (n / 10)) ≡ n / 10 → tells 0 ((if b then [] else digitsIn k (n / 10)) ++ digit (n % 10) ∷ []) ≡ n
-    by true e q = rw (lt-ltb (n % 10) 10 (omega arith)) (omega (arith, ltb-true n 10 e))
-    by false e q = rw (tells-append 0 (digitsIn k (n / 10)) (digit (n % 10) ∷ []), q, lt-ltb (n % 10) 10 (omega arith)) (omega arith)
-
--- the same with a minus in front, or none
-abbrev tellsSigned : List ℕ → ℤ
-tellsSigned [] = pos 0
-tellsSigned (b ∷ bs) = if eqb b 45 then negℤ (pos (tells 0 bs)) else pos (tells 0 (b ∷ bs))
-
-no-minus : (bs : List ℕ) → Above 45 bs → tellsSigned bs ≡ pos (tells 0 bs)
-no-minus [] h = refl
-no-minus (b ∷ bs) h = rw (ne-eqb b 45 (λ e. omega (arith, h .0)))
-
-signed-tells : (z : ℤ) → natAbs z < 10 ^ 20 → tellsSigned (signed z) ≡ z
-unfolding signed decimal
-signed-tells (pos n) h = rw (le-ltb n 0 (omega arith)) (no-minus (digitsIn 20 n) (digits-above 45 20 n (omega arith)) ∙ ap pos (digits-tell 20 n h))
-signed-tells (negsuc n) h = ap (λ (m : ℕ). negℤ (pos m)) (digits-tell 20 (suc n) h)
-
-signed-above : (z : ℤ) → Above 32 (signed z)
-unfolding signed decimal
-signed-above (pos n) = rw (le-ltb n 0 (omega arith)) (digits-above 32 20 n (omega arith))
-signed-above (negsuc n) = (omega arith, digits-above 32 20 (suc n) (omega arith))
-
-decimal-above : (n : ℕ) → Above 32 (decimal n)
-unfolding decimal
-decimal-above n = digits-above 32 20 n (omega arith)
-
--- ---- lines
 
 -- two texts that are the same are the same up to a mark and behind it
 same-first : {a b : ℕ} {xs ys : List ℕ} → a ∷ xs ≡ b ∷ ys → (a ≡ b) × (xs ≡ ys)
@@ -118,9 +53,9 @@ line-then i v rest = by (decimal i) (signed (numerator v)) (decimal (denominator
 
 same-line : (i : ℕ) (v w : Value) (xs ys : List ℕ) → line i v ++ xs ≡ line i w ++ ys → (signed (numerator v) ≡ signed (numerator w)) × (xs ≡ ys)
 same-line i v w xs ys e =
-    let (_, rest) = same-parts 32 (omega arith) (decimal i) (decimal i) _ _ (decimal-above i) (decimal-above i) (sym (line-then i v xs) ∙ e ∙ line-then i w ys) in
+    let (_, rest) = same-parts 32 (omega arith) (decimal i) (decimal i) _ _ (decimal-above 32 i (omega arith)) (decimal-above 32 i (omega arith)) (sym (line-then i v xs) ∙ e ∙ line-then i w ys) in
     let (same, rest₁) = same-parts 32 (omega arith) (signed (numerator v)) (signed (numerator w)) _ _ (signed-above (numerator v)) (signed-above (numerator w)) rest in
-    (same, same-parts 10 (omega arith) (decimal (denominator v)) (decimal (denominator w)) xs ys (decimal-above (denominator v)) (decimal-above (denominator w)) rest₁ .1)
+    (same, same-parts 10 (omega arith) (decimal (denominator v)) (decimal (denominator w)) xs ys (decimal-above 32 (denominator v) (omega arith)) (decimal-above 32 (denominator w) (omega arith)) rest₁ .1)
 
 -- a number of at most 48 bits has at most 20 digits
 few-digits : (r : Record) (v : Value) → Holds r v → r .width ≤ 48 → natAbs (numerator v) < 10 ^ 20
@@ -133,7 +68,7 @@ few-digits r (fraction n d) h k = short n (fits-iff .0 (h .fits))
     short (negsuc n) q = let p = pow-mono {i = r .width - 1} {j = 47} (omega arith) in omega arith
 
 same-number : (v w : Value) → natAbs (numerator v) < 10 ^ 20 → natAbs (numerator w) < 10 ^ 20 → signed (numerator v) ≡ signed (numerator w) → numerator v ≡ numerator w
-same-number v w h k e = sym (signed-tells (numerator v) h) ∙ ap tellsSigned e ∙ signed-tells (numerator w) k
+same-number v w h k e = Option·some-injective _ _ (sym (integer-back (numerator v) h) ∙ ap integer e ∙ integer-back (numerator w) k)
 
 same-lines : (rs : List Record) → NarrowRecords rs → (i : ℕ) (rows : List Fields) (vs ws : List Value) → AllHold rs vs → AllHold rs ws
     → settingLines i rows vs ≡ settingLines i rows ws → ofUnknowns rows vs ≡ ofUnknowns rows ws

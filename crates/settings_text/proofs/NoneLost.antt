@@ -2,6 +2,7 @@
 use mathlib.Core.Path.{_≡_, sym, ap, _∙_}
 use mathlib.Core.Bool.{true, false}
 use mathlib.Core.List.{List, [], _∷_, _++_, map, append-assoc, append-nil}
+use mathlib.Core.Option.{Option·some-injective}
 use Prim.Native.Nat.{ℕ, _+_, _*_, _≤_}
 use native.Mathlib.Omega.{arith}
 use borrow.Author.Tests.{le-ltb}
@@ -9,12 +10,13 @@ use lib.IntN.{ℤ}
 use lib.ListN.{drop, length-append, length-map}
 use lib.Seq.{take-all, drop-at}
 use Rattle.whole.specs.Bits.{bit}
-use Rattle.circuit.specs.Literals.{Assignment}
+use Rattle.circuit.specs.Literals.{Clause, Assignment, allTrue}
 use Rattle.sheet.specs.Values.{rowValues, Within}
 use Rattle.sheet.specs.Acceptance.{accepted, Sheet, accept}
 use Rattle.sheet.specs.Steps.{extension}
 use Rattle.sheet.specs.Calls.{modelOf, constraint}
 use Rattle.sheet.specs.Texts.{ascii, Bytes, linesOf, tableIn, dimacs, settingLines, model, modelText, claimIn}
+use Rattle.sheet.specs.Dimacs.{readDimacs}
 use Rattle.sheet.specs.Programs.{inputOf, settled, clauseProgram, settingsProgram}
 use Rattle.sheet.specs.Statements.{Rows}
 use Rattle.sheet.proofs.Accepted.{IsAccepted, accepted-tells}
@@ -22,12 +24,13 @@ use Rattle.sheet.proofs.Lines.{table-long, table-bytes, table-read, table-ended
 use Rattle.promise.specs.Promise.{Promise}
 use Rattle.promise.specs.Across.{rowsIn}
 use Rattle.promise.proofs.Promise.{demand-three}
-use Rattle.promise.proofs.Assessor.{bits-back, extension-passes}
+use Rattle.promise.proofs.Assessor.{bits-back, extension-passes, none-exists}
+use Rattle.promise.proofs.ReadBack.{dimacs-read-back}
 use Rattle.program.specs.Sheets.{sheetOf}
 use Rattle.solver_text.specs.Printed.{Bits}
 use Rattle.solver_text.proofs.Printed.{printed-accepted}
 use Rattle.settings_text.specs.Replies.{wholeText}
-use Rattle.settings_text.specs.NoneLost.{ClausesPrinted, PrintedNoneLost}
+use Rattle.settings_text.specs.NoneLost.{ClausesPrinted, ClausesReadBack, PrintedNoneExists, PrintedNoneLost}
 use Rattle.settings_text.proofs.Uncut.{uncut}
 
 bits-are : (s : Assignment) → Bits (map bit s)
@@ -94,6 +97,14 @@ module _ (table : List ℕ) (sheet : Sheet) (h : Bytes table) (e : accept table 
 
 pub clauses-printed : ClausesPrinted
 clauses-printed = clauses-are
+
+pub clauses-read-back : ClausesReadBack
+clauses-read-back table sheet h e fits = ap readDimacs (clauses-are table sheet h e fits) ∙ dimacs-read-back table sheet e
+
+pub printed-none-exists : PrintedNoneExists
+printed-none-exists table sheet h e fits variables cs read none values within =
+    let same = Option·some-injective _ _ (sym (clauses-read-back table sheet h e fits) ∙ read) in
+    none-exists table sheet e (λ s l. ap (λ (r : ℕ × List Clause). allTrue s (r .1)) same ∙ none s (l ∙ ap (λ (r : ℕ × List Clause). r .0) same)) values within
 
 pub printed-none-lost : PrintedNoneLost
 printed-none-lost = settings-are

@@ -2,13 +2,14 @@
 -- theorem, proved by computing. Assumes nothing.
 use mathlib.Core.Path.{_≡_, refl}
 use mathlib.Core.List.{List, [], _∷_, _++_, map}
+use mathlib.Core.Option.{Option, none, some, bind}
 use Prim.Native.Nat.{ℕ, _/_, _%_}
 use Prim.Native.String.{String}
 use lib.ListN.{length, replicate}
 use lib.IntN.{ℤ, pos, negsuc}
 use Rattle.whole.specs.Bits.{bit}
 use Rattle.whole.specs.Divisors.{gcd, lcm}
-use Rattle.circuit.specs.Literals.{plus}
+use Rattle.circuit.specs.Literals.{plus, Clause, slotsOf}
 use Rattle.circuit.specs.Circuits.{gates, clausesFrom}
 use Rattle.circuit.specs.Numbers.{product}
 use Rattle.circuit.specs.Counting.{aProduct, expandedWidth, anExpansion}
@@ -20,6 +21,7 @@ use Rattle.sheet.specs.Acceptance.{Outcome, refused, accepted, Sheet, ju
 use Rattle.sheet.specs.Steps.{rowSteps, steps, cells, clausesButLast, lastClause, clauses, slotsFor, readRows, extension}
 use Rattle.sheet.specs.Calls.{constraint}
 use Rattle.sheet.specs.Texts.{ascii, beginsLine, bytesIn, tableIn, linesFrom, readLines, digitsIn, decimal, signed, slotText, slotTexts, dimacs, settingLines, refusedLine, variableText, variableTexts, modelLine, signAt, signsIn, starts, claimIn}
+use Rattle.sheet.specs.Dimacs.{pieces, filled, words, digitsBehind, natural, integer, clausesSpelt, behindComments, lineIn, readDimacs}
 use Rattle.sheet.specs.Programs.{clauseProgram, settingsProgram}
 
 -- a row's bytes, and those of a number constant by its 32 bits
@@ -70,6 +72,18 @@ readings table vs = shown (λ sheet. map numerator (readRows sheet (extension (s
 abbrev settled : String → List ℤ
 settled text = map pos (settingsProgram (ascii "0202000000000001\n0400000000020001\n3000000000010000\n" ++ ascii text))
 
+-- what a text shows that is read as DIMACS CNF: the variables, and the clauses in slots; nothing where it is none
+abbrev shownCnf : Option (ℕ × List Clause) → List ℤ
+shownCnf none = []
+shownCnf (some cnf) = pos (cnf .0) ∷ slotsOf (cnf .1)
+
+abbrev cnfIn : String → List ℤ
+cnfIn text = shownCnf (readDimacs (ascii text))
+
+-- two 1-bit integers and their product
+abbrev oneBits : List ℕ
+oneBits = row 0x03 1 0 0 1 ++ row 0x03 1 0 0 1 ++ row 0x22 0 0 1 0 ++ end
+
 abbrev pub aboveTwo : List ℕ
 aboveTwo = row 0x02 2 0 0 1 ++ number 2 1 ++ row 0x30 0 0 1 0
 
@@ -102,12 +116,13 @@ examples =
     ∷ (numerators (number 0 1 ++ number 0xffff_fffc 1 ++ row 0x21 0 0 1 0 ++ end) gives pos 0 ∷ negsuc 3 ∷ pos 4 ∷ pos 1 ∷ [])
     ∷ (widths (number 0xffff_fff8 1 ++ row 0x22 0 0 0 0 ++ end) gives pos 4 ∷ pos 8 ∷ pos 1 ∷ [])
     ∷ (numerators (number 0xffff_fff8 1 ++ row 0x22 0 0 0 0 ++ end) gives negsuc 7 ∷ pos 64 ∷ pos 1 ∷ [])
-    -- 1-bit integers, -1 times -1; the product alone; the table with both integers and both units
-    ∷ (widths (row 0x03 1 0 0 1 ++ row 0x03 1 0 0 1 ++ row 0x22 0 0 1 0 ++ end) gives pos 1 ∷ pos 1 ∷ pos 2 ∷ pos 1 ∷ [])
-    ∷ (numerators (number 0xffff_ffff 1 ++ row 0x22 0 0 0 0 ++ end) gives negsuc 0 ∷ pos 1 ∷ pos 1 ∷ [])
+    -- 1-bit integers, -1 times -1: by values, and by steps; the product alone; the table with both integers and both units
+    ∷ (widths oneBits gives pos 1 ∷ pos 1 ∷ pos 2 ∷ pos 1 ∷ [])
+    ∷ (evaluations oneBits (negsuc 0 ∷ negsuc 0 ∷ []) gives negsuc 0 ∷ negsuc 0 ∷ pos 1 ∷ pos 1 ∷ [])
+    ∷ (readings oneBits (negsuc 0 ∷ negsuc 0 ∷ []) gives negsuc 0 ∷ negsuc 0 ∷ pos 1 ∷ pos 1 ∷ [])
     ∷ (pos (length (gates 3 (product (plus 1 ∷ []) (plus 2 ∷ [])))) ∷ pos (length (clausesFrom 3 (gates 3 (product (plus 1 ∷ []) (plus 2 ∷ []))))) ∷ []
     gives pos 6 ∷ pos 23 ∷ [])
-    ∷ (sizes (row 0x03 1 0 0 1 ++ row 0x03 1 0 0 1 ++ row 0x22 0 0 1 0 ++ end) gives pos 9 ∷ pos 25 ∷ pos 90 ∷ [])
+    ∷ (sizes oneBits gives pos 9 ∷ pos 25 ∷ pos 90 ∷ [])
     -- 3/2 + -1/4: the sum has one bit more than the expanded 6; ((1/2 times 4/2) times 3/2) + 1/2
     ∷ (widths (number 3 2 ++ number 0xffff_ffff 4 ++ row 0x20 0 0 1 0 ++ end) gives pos 3 ∷ pos 1 ∷ pos 7 ∷ pos 1 ∷ [])
     ∷ (pos (expandedWidth 3 2) ∷ [] gives pos 6 ∷ [])
@@ -122,6 +137,24 @@ examples =
     -- the whole example
     ∷ (map pos (clauseProgram (ascii "0100000000000000\n1000000000000000\n1100000000010000\n"))
     gives map pos (ascii "p cnf 3 5\n1 0\n-3 2 0\n-3 -2 0\n3 -2 2 0\n3 0\n"))
+    -- the same read as DIMACS CNF; then comments, blanks, a clause over two lines and two in one; an empty clause; no clause
+    ∷ (shownCnf (readDimacs (clauseProgram (ascii "0100000000000000\n1000000000000000\n1100000000010000\n")))
+    gives pos 3 ∷ pos 1 ∷ pos 0 ∷ negsuc 2 ∷ pos 2 ∷ pos 0 ∷ negsuc 2 ∷ negsuc 1 ∷ pos 0 ∷ pos 3 ∷ negsuc 1 ∷ pos 2 ∷ pos 0 ∷ pos 3 ∷ pos 0 ∷ [])
+    ∷ (cnfIn "c from a planner\nc\np  cnf 12  2 \n 1\t-12\n\n7 0 2 0" gives pos 12 ∷ pos 1 ∷ negsuc 11 ∷ pos 7 ∷ pos 0 ∷ pos 2 ∷ pos 0 ∷ [])
+    ∷ (cnfIn "p cnf 0 1\n0\n" gives pos 0 ∷ pos 0 ∷ [])
+    ∷ (cnfIn "p cnf 1 0\n" gives pos 1 ∷ [])
+    -- no DIMACS CNF: a clause too few, one too many, a variable too large, no 0 at the end, a minus alone, a word, a plus, no header, a header
+    -- in two lines or with a third number
+    ∷ (cnfIn "p cnf 2 2\n1 -2 0\n" gives [])
+    ∷ (cnfIn "p cnf 2 1\n1 -2 0\n2 0\n" gives [])
+    ∷ (cnfIn "p cnf 2 1\n1 -3 0\n" gives [])
+    ∷ (cnfIn "p cnf 2 2\n1 0\n-2\n" gives [])
+    ∷ (cnfIn "p cnf 2 1\n1 - 0\n" gives [])
+    ∷ (cnfIn "p cnf 2 1\n1 x 0\n" gives [])
+    ∷ (cnfIn "p cnf 2 1\n+1 0\n" gives [])
+    ∷ (cnfIn "1 0\n" gives [])
+    ∷ (cnfIn "p cnf 2\n1\n1 0\n" gives [])
+    ∷ (cnfIn "p cnf 2 1 1\n1 0\n" gives [])
     -- the settings program on a 2-bit natural above 2: a model, none claimed, a false clause; and what is refused on the way there
     ∷ (settled "\ns SATISFIABLE\nv 1 2 3 4 5 -6 7 -8 9 0\n" gives map pos (ascii "0 3 1\n"))
     ∷ (settled "\ns UNSATISFIABLE\n" gives map pos (ascii "none claimed\n"))
@@ -133,6 +166,7 @@ examples =
     ∷ (map pos (settingsProgram []) gives map pos (ascii "refused 1 0\n"))
     ∷ (map pos (clauseProgram (ascii "0100000000000000\n010000000000000A\n")) gives map pos (ascii "refused 20 1\n"))
     ∷ (map pos (clauseProgram (ascii "0100000000000000")) gives map pos (ascii "refused 20 0\n"))
+    ∷ (map pos (clauseProgram (ascii "0100000000000000\n\n")) gives map pos (ascii "refused 20 1\n"))
     -- a 2-bit natural above 2: its sizes, accepted and made; of 0, 1, 2 and 3 only 3 is a solution
     ∷ (sizes aboveTwo gives pos 9 ∷ pos 26 ∷ pos 100 ∷ [])
     ∷ (made aboveTwo gives pos 9 ∷ pos 26 ∷ pos 100 ∷ [])
@@ -160,5 +194,5 @@ examples =
     ∷ []
 
 pub examples-hold : map (λ (e : Example). e .shows) examples ≡ map (λ (e : Example). e .wanted) examples
-unfolding gcd lcm aProduct expandedWidth anExpansion kindOf readRow rowsOf rowVal rowValues judge walk accept rowSteps steps cells clausesButLast lastClause clauses slotsFor readRows extension constraint beginsLine bytesIn tableIn linesFrom readLines digitsIn decimal signed slotText slotTexts dimacs settingLines refusedLine variableText variableTexts modelLine signAt signsIn starts claimIn clauseProgram settingsProgram
+unfolding gcd lcm aProduct expandedWidth anExpansion kindOf readRow rowsOf rowVal rowValues judge walk accept rowSteps steps cells clausesButLast lastClause clauses slotsFor readRows extension constraint beginsLine bytesIn tableIn linesFrom readLines digitsIn decimal signed slotText slotTexts dimacs settingLines refusedLine variableText variableTexts modelLine signAt signsIn starts claimIn bind pieces filled words digitsBehind natural integer clausesSpelt behindComments lineIn readDimacs clauseProgram settingsProgram
 examples-hold = refl
