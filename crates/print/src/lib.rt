@@ -87,7 +87,7 @@ fn put_slot(out: &mut [u8], at: usize, x: i32) -> usize
 }
 
 // A line of a word and two numbers, from place `at` on; where it ends.
-fn put_pair_line(out: &mut [u8], at: usize, word: &[u8], m: u64, n: u64) -> usize
+pub fn put_pair_line(out: &mut [u8], at: usize, word: &[u8], m: u64, n: u64) -> usize
     requires { ⌜ at + length (now word) + 42 ≤ length (now out) ⌝ }
     ensures { λ r. ⌜ Put (pairLine (now (word .entry)) m n) at (now (out .entry)) (now (out .exit)) r ⌝ }
 {

@@ -81,9 +81,12 @@ module _ (blank : Bool) (text : List ℕ) where
   unfolding readLines
   read-cut = lines-cut 256 blank 0 65536 text (omega arith)
 
-  pub found-cut : (l : LinesFound) → readLines blank text 2048 ≡ accepted l → sheetIn (inputOf text) l ≡ sheetIn text l
+  pub same-table : (l : LinesFound) → readLines blank text 2048 ≡ accepted l → tableIn (l .rows) (inputOf text) ≡ tableIn (l .rows) text
   unfolding readLines
-  found-cut l e = ap sheetOf (table-cut (l .rows) 65536 text (omega (arith, few-lines 256 blank 0 text l e)))
+  same-table l e = table-cut (l .rows) 65536 text (omega (arith, few-lines 256 blank 0 text l e))
+
+  pub found-cut : (l : LinesFound) → readLines blank text 2048 ≡ accepted l → sheetIn (inputOf text) l ≡ sheetIn text l
+  found-cut l e = ap sheetOf (same-table l e)
 
   pub sheet-cut : sheetRead blank (inputOf text) ≡ sheetRead blank text
   sheet-cut = ap (λ (o : Outcome LinesFound). o >>= sheetIn (inputOf text)) read-cut ∙ by (readLines blank text 2048) refl

@@ -53,7 +53,7 @@ module _ (blank : Bool) (text table : List ℕ) (h : length table ≡ 2048) wher
   lines-refused n p e = let f = rw h at e in rw (← f)
 
   module _ (found : LinesFound) (e : accepted found ≡ readLines blank text (length table)) where
-    found-is : readLines blank text 2048 ≡ accepted found
+    pub found-is : readLines blank text 2048 ≡ accepted found
     found-is = sym (rw h at e)
 
     pub found-few : 8 * found .rows ≤ 2048

@@ -16,7 +16,7 @@ use Rattle.sheet.specs.declared.Record.{Record}
 use Rattle.sheet.specs.Rows.{uses, isUnknown}
 use Rattle.sheet.specs.Values.{Value, boolean, fraction, numerator, denominator, rowValues, Within}
 use Rattle.sheet.specs.Steps.{ofUnknowns}
-use Rattle.sheet.specs.Texts.{ascii, decimal, signed, settingLines}
+use Rattle.sheet.specs.Texts.{ascii, decimal, signed, settingLines, valueLine}
 use Rattle.sheet.specs.Dimacs.{integer}
 use Rattle.sheet.proofs.Numerals.{Above, decimal-above, signed-above, integer-back}
 use Rattle.sheet.proofs.Widths.{Holds, AllHold}
@@ -40,10 +40,7 @@ same-parts m l (a ∷ cs) (b ∷ bs) xs ys h k e =
     (ap₂ _∷_ (same-first e .0) same, rest)
 
 -- row i's line, and the text behind it
-abbrev line : ℕ → Value → List ℕ
-line i v = decimal i ++ ascii " " ++ signed (numerator v) ++ ascii " " ++ decimal (denominator v) ++ ascii "\n"
-
-line-then : (i : ℕ) (v : Value) (rest : List ℕ) → line i v ++ rest ≡ decimal i ++ 32 ∷ (signed (numerator v) ++ 32 ∷ (decimal (denominator v) ++ 10 ∷ rest))
+line-then : (i : ℕ) (v : Value) (rest : List ℕ) → valueLine i v ++ rest ≡ decimal i ++ 32 ∷ (signed (numerator v) ++ 32 ∷ (decimal (denominator v) ++ 10 ∷ rest))
 line-then i v rest = by (decimal i) (signed (numerator v)) (decimal (denominator v))
   where
     by : (a b c : List ℕ) → a ++ ascii " " ++ b ++ ascii " " ++ c ++ ascii "\n" ++ rest ≡ a ++ 32 ∷ (b ++ 32 ∷ (c ++ 10 ∷ rest))
@@ -51,7 +48,7 @@ line-then i v rest = by (decimal i) (signed (numerator v)) (decimal (denominator
         append-assoc (a ++ ascii " " ++ b ++ ascii " " ++ c) (ascii "\n") rest ∙ append-assoc (a ++ ascii " " ++ b ++ ascii " ") c (10 ∷ rest)
         ∙ append-assoc (a ++ ascii " " ++ b) (ascii " ") (c ++ 10 ∷ rest) ∙ append-assoc (a ++ ascii " ") b (32 ∷ (c ++ 10 ∷ rest)) ∙ append-assoc a (ascii " ") (b ++ 32 ∷ (c ++ 10 ∷ rest))
 
-same-line : (i : ℕ) (v w : Value) (xs ys : List ℕ) → line i v ++ xs ≡ line i w ++ ys → (signed (numerator v) ≡ signed (numerator w)) × (xs ≡ ys)
+same-line : (i : ℕ) (v w : Value) (xs ys : List ℕ) → valueLine i v ++ xs ≡ valueLine i w ++ ys → (signed (numerator v) ≡ signed (numerator w)) × (xs ≡ ys)
 same-line i v w xs ys e =
     let (_, rest) = same-parts 32 (omega arith) (decimal i) (decimal i) _ _ (decimal-above 32 i (omega arith)) (decimal-above 32 i (omega arith)) (sym (line-then i v xs) ∙ e ∙ line-then i w ys) in
     let (same, rest₁) = same-parts 32 (omega arith) (signed (numerator v)) (signed (numerator w)) _ _ (signed-above (numerator v)) (signed-above (numerator w)) rest in
@@ -79,7 +76,7 @@ same-lines (r ∷ rs) n i [] (v ∷ vs) (w ∷ ws) h k e = refl
 same-lines (r ∷ rs) n i (f ∷ rows) (v ∷ vs) (w ∷ ws) h k e = by (isUnknown (uses (f .kind))) (same-lines rs (n .1) (i + 1) rows vs ws (h .1) (k .1)) e
   where
     by : (b : Bool) → (settingLines (i + 1) rows vs ≡ settingLines (i + 1) rows ws → ofUnknowns rows vs ≡ ofUnknowns rows ws)
-        → (if b then line i v else []) ++ settingLines (i + 1) rows vs ≡ (if b then line i w else []) ++ settingLines (i + 1) rows ws
+        → (if b then valueLine i v else []) ++ settingLines (i + 1) rows vs ≡ (if b then valueLine i w else []) ++ settingLines (i + 1) rows ws
         → (if b then numerator v ∷ ofUnknowns rows vs else ofUnknowns rows vs) ≡ (if b then numerator w ∷ ofUnknowns rows ws else ofUnknowns rows ws)
     by true rest q =
         let (same, behind) = same-line i v w (settingLines (i + 1) rows vs) (settingLines (i + 1) rows ws) q in

@@ -28,7 +28,7 @@ pub setting-parts : (i : ℕ) (n : ℤ) (d : ℕ) → (decimal i ++ 32 ∷ []) +
 unfolding settingLine
 setting-parts i n d = simp append-assoc
 
-length-setting : (i : ℕ) (n : ℤ) (d : ℕ) → length (settingLine i n d) ≤ 64
+pub length-setting : (i : ℕ) (n : ℤ) (d : ℕ) → length (settingLine i n d) ≤ 64
 length-setting i n d = rw (sym (setting-parts i n d)) (simp length-append (omega (arith, length-decimal i, length-signed n, length-decimal d)))
 
 piece-short : (i : ℕ) (r : Reading) (v : ℤ) → length (settingPiece i r v) ≤ 64

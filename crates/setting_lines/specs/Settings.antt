@@ -1,6 +1,6 @@
 -- The pieces of the settings in print: a row a piece, which is empty if the row is no unknown. Assumes nothing.
 use mathlib.Core.Path.{_≡_}
-use mathlib.Core.List.{List, [], _∷_, _++_}
+use mathlib.Core.List.{List, [], _∷_}
 use Prim.Native.Nat.{ℕ, zero, suc, _+_, _/_, _≤_}
 use lib.IntN.{ℤ, pos}
 use lib.ListN.{length, getD, take, drop}
@@ -10,16 +10,16 @@ use Rattle.circuit.specs.Literals.{Assignment}
 use Rattle.sheet.specs.declared.Reading.{Reading}
 use Rattle.sheet.specs.declared.Reading.the-variants.{Read, Refused}
 use Rattle.sheet.specs.Rows.{uses, isUnknown, readRow}
-use Rattle.sheet.specs.Values.{denominator, rowVal}
+use Rattle.sheet.specs.Values.{fraction, denominator, rowVal}
 use Rattle.sheet.specs.Acceptance.{accepted, Sheet, accept}
 use Rattle.sheet.specs.Steps.{readRows, settings}
-use Rattle.sheet.specs.Texts.{ascii, decimal, signed, settingLines}
+use Rattle.sheet.specs.Texts.{settingLines, valueLine}
 use Rattle.print.specs.Pages.{pages}
 use Rattle.unknown.specs.Unknowns.{readsUnknown}
 
--- an unknown's row, numerator and denominator
+-- a row's number, numerator and denominator
 unfoldable pub settingLine : (i : ℕ) (numerator : ℤ) (denominator : ℕ) → List ℕ
-settingLine i numerator denominator = decimal i ++ ascii " " ++ signed numerator ++ ascii " " ++ decimal denominator ++ ascii "\n"
+settingLine i numerator denominator = valueLine i (fraction numerator denominator)
 
 -- v is the numerator; the denominator is that of the unknown's value, whatever is chosen for it
 abbrev pub settingPiece : (i : ℕ) → Reading → (v : ℤ) → List ℕ

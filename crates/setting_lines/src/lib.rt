@@ -10,8 +10,14 @@ ghost use Rattle.print.specs.Put.{Put};
 ghost use Rattle.print.specs.Pages.{pageFrom, paged};
 ghost use Rattle.setting_lines.specs.Settings.{settingLine, tablePieces, unknownsIn};
 
-// An unknown's line from place `at` on: row, numerator, denominator.
-fn put_setting_line(out: &mut [u8], at: usize, i: u64, numerator: i64, denominator: u64) -> usize
+// A row's line from place `at` on: row, numerator, denominator.
+pub fn put_setting_line(
+    out: &mut [u8],
+    at: usize,
+    i: u64,
+    numerator: i64,
+    denominator: u64,
+) -> usize
     requires { ⌜ at + 64 ≤ length (now out) ⌝ }
     ensures { λ r. ⌜ Put (settingLine i numerator denominator) at (now (out .entry)) (now (out .exit)) r ⌝ }
 {

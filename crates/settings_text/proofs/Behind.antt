@@ -10,9 +10,10 @@ use Rattle.whole.specs.Tests.{if_then_else_}
 use Rattle.sheet.specs.declared.LinesFound.{LinesFound}
 use Rattle.sheet.specs.Acceptance.{Outcome, refused, accepted}
 use Rattle.sheet.specs.Texts.{beginsLine, tableIn, lines, linesFrom, readLines, refusedLine}
+use Rattle.sheet.specs.Programs.{reply}
 use Rattle.sheet.proofs.Called.{refused-not}
 use Rattle.lines.proofs.Laws.{begins-long}
-use Rattle.settings_text.specs.Replies.{claimText, wholeText}
+use Rattle.settings_text.specs.Replies.{toldBy, claimText}
 
 rest-here : {n rest : ℕ} {b : Bool} {l : LinesFound} → lines n rest b ≡ accepted l → l .rest ≡ rest
 rest-here e = cc
@@ -46,9 +47,9 @@ unfolding readLines
 read-near text l e = let (within, near) = rest-near 256 true 0 text l e in (omega (arith, within), omega (arith, near))
 
 -- ---- by what a reader that was lent 2,048 bytes answers
-module _ (text table : List ℕ) (h : length table ≡ 2048) where
-  pub lines-printed : {n p : ℕ} → refused n p ≡ readLines true text (length table) → wholeText text ≡ refusedLine n p
-  unfolding wholeText
+module _ (all : Bool) (text table : List ℕ) (h : length table ≡ 2048) where
+  pub lines-printed : {n p : ℕ} → refused n p ≡ readLines true text (length table) → reply (toldBy all) text ≡ refusedLine n p
+  unfolding reply
   lines-printed e = let f = rw h at e in rw (← f)
 
   module _ (found : LinesFound) (e : accepted found ≡ readLines true text (length table)) where
@@ -58,6 +59,6 @@ module _ (text table : List ℕ) (h : length table ≡ 2048) where
     pub behind-within : found .rest ≤ length text
     behind-within = read-near text _ found-is .0
 
-    pub found-printed : wholeText text ≡ claimText (tableIn (found .rows) text) (drop (found .rest) text)
-    unfolding wholeText claimText
+    pub found-printed : reply (toldBy all) text ≡ claimText all (tableIn (found .rows) text) (drop (found .rest) text)
+    unfolding reply claimText
     found-printed = rw found-is

@@ -20,7 +20,7 @@ use Rattle.sheet.proofs.Called.{giving-refuses}
 use Rattle.table.proofs.Answers.{left-accepted}
 use Rattle.assign.specs.Model.{areBits}
 use Rattle.solver_text.proofs.Answers.{answer-none, told, model-claimed}
-use Rattle.settings_text.specs.Replies.{Taken, Told, settingsText, claimText}
+use Rattle.settings_text.specs.Replies.{Taken, Told, toldText, claimText}
 use Rattle.settings_text.proofs.Variables.{taken-few}
 
 -- ---- the bytes that the signs tell
@@ -45,7 +45,7 @@ signs-bits zero k text = refl
 signs-bits (suc n) k text = rw (sign-bit text) (signs-bits n (k + 1) (drop (length (variableText (signAt text) k)) text))
 
 -- ---- a table that is gone on with, and a reader that was lent 10,000 bytes
-module _ (table rest : List ℕ) {n : ℕ} (taken : Taken table n) (model₀ : List ℕ) (h : length model₀ ≡ 10000) where
+module _ (all : Bool) (table rest : List ℕ) {n : ℕ} (taken : Taken table n) (model₀ : List ℕ) (h : length model₀ ≡ 10000) where
   few : n < 10000
   few = taken-few taken
 
@@ -60,11 +60,11 @@ module _ (table rest : List ℕ) {n : ℕ} (taken : Taken table n) (model₀ : L
   claim-is : {o : Outcome Claim} → claimIn n rest ≡ o → claimIn (taken .sheet .counts .variables) rest ≡ o
   claim-is e = rw (taken .many) at e
 
-  pub refusal-printed : {m p : ℕ} → Answered (Refused m p) → claimText table rest ≡ refusedLine m p
+  pub refusal-printed : {m p : ℕ} → Answered (Refused m p) → claimText all table rest ≡ refusedLine m p
   unfolding claimText
   refusal-printed e = rw (taken .is, claim-is (giving-refuses (claimIn n rest) isModel (sym (rw outcome-is at e))))
 
-  pub none-printed : Answered NoneClaimed → claimText table rest ≡ ascii "none claimed\n"
+  pub none-printed : Answered NoneClaimed → claimText all table rest ≡ ascii "none claimed\n"
   unfolding claimText
   none-printed e = rw (taken .is, claim-is (answer-none (claimIn n rest) (rw outcome-is at e)))
 
@@ -83,6 +83,6 @@ module _ (table rest : List ℕ) {n : ℕ} (taken : Taken table n) (model₀ : L
         rw bytes-are
         (record { taken = record { sheet = taken .sheet; is = taken .is; many = many ∙ taken .many }; bits = signs-bits n 1 (drop 16 rest) })
 
-    pub model-printed : claimText table rest ≡ settingsText table (take n after)
-    unfolding claimText settingsText
+    pub model-printed : claimText all table rest ≡ toldText all table (take n after)
+    unfolding claimText toldText
     model-printed = rw (bytes-are, taken .is, claim-is model-is)

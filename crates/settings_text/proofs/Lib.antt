@@ -4,5 +4,6 @@ pub mod Taking
 pub mod Behind
 pub mod Claims
 pub mod Settled
+pub mod Values
 pub mod Uncut
 pub mod NoneLost

@@ -17,7 +17,7 @@ use Rattle.sheet.specs.Steps.{extension}
 use Rattle.sheet.specs.Calls.{modelOf, constraint}
 use Rattle.sheet.specs.Texts.{ascii, Bytes, linesOf, tableIn, dimacs, settingLines, model, modelText, claimIn}
 use Rattle.sheet.specs.Dimacs.{readDimacs}
-use Rattle.sheet.specs.Programs.{inputOf, settled, clauseProgram, settingsProgram}
+use Rattle.sheet.specs.Programs.{inputOf, settled, reply, settingsTold, clauseProgram, settingsProgram}
 use Rattle.sheet.specs.Statements.{Rows}
 use Rattle.sheet.proofs.Accepted.{IsAccepted, accepted-tells}
 use Rattle.sheet.proofs.Lines.{table-long, table-bytes, table-read, table-ended}
@@ -29,7 +29,6 @@ use Rattle.promise.proofs.ReadBack.{dimacs-read-back}
 use Rattle.program.specs.Sheets.{sheetOf}
 use Rattle.solver_text.specs.Printed.{Bits}
 use Rattle.solver_text.proofs.Printed.{printed-accepted}
-use Rattle.settings_text.specs.Replies.{wholeText}
 use Rattle.settings_text.specs.NoneLost.{ClausesPrinted, ClausesReadBack, PrintedNoneExists, PrintedNoneLost}
 use Rattle.settings_text.proofs.Uncut.{uncut}
 
@@ -86,11 +85,11 @@ module _ (table : List ℕ) (sheet : Sheet) (h : Bytes table) (e : accept table 
     claim-is : claimIn (sheet .counts .variables) (modelText bytes) ≡ accepted (model bytes)
     claim-is = ap (λ (k : ℕ). claimIn k (modelText bytes)) (sym (length-map s bit ∙ promised .one .sized)) ∙ printed-accepted bytes (bits-are s)
 
-    settled-is : settled sheet (model bytes) ≡ accepted settings
+    settled-is : settled settingsTold sheet (model bytes) ≡ accepted settings
     settled-is = rw (bits-back s, extension-passes table sheet e values within holds, promised .rows s (promised .one))
 
     settings-are : settingsProgram input ≡ settings
-    unfolding wholeText
+    unfolding reply
     settings-are =
         let sheet-here = sheet-is input (10 ∷ modelText bytes) (append-assoc (linesOf n table) (ascii "\n") (modelText bytes)) in
         uncut input ∙ rw (table-ended n table rows few (modelText bytes), sheet-here, behind, claim-is, settled-is)

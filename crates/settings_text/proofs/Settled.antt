@@ -1,4 +1,4 @@
--- What decoding a model that was told comes to: the line of refusal 19, or the settings' lines. Assumes nothing.
+-- What decoding a model that was told comes to: the line of refusal 19, the settings' lines, or values that can be evaluated. Assumes nothing.
 use mathlib.Core.Path.{_≡_, refl, sym, ap, _∙_}
 use mathlib.Core.Bool.{Bool, true, false}
 use mathlib.Core.List.{List, [], _∷_}
@@ -11,19 +11,22 @@ use lib.ListN.{length, getD, take, drop, length-append}
 use lib.Seq.{take-at}
 use Rattle.whole.specs.Tests.{if_then_else_}
 use Rattle.sheet.specs.declared.Fields.{Fields}
-use Rattle.sheet.specs.Rows.{uses, isUnknown}
-use Rattle.sheet.specs.Values.{unknowns}
+use Rattle.sheet.specs.Rows.{uses, isUnknown, rowsOf}
+use Rattle.sheet.specs.Values.{rowValues, unknowns, Within}
 use Rattle.sheet.specs.Acceptance.{Outcome, refused, accepted, Sheet, accept}
-use Rattle.sheet.specs.Steps.{clauses, settings, readRows}
+use Rattle.sheet.specs.Steps.{clauses, settings}
 use Rattle.sheet.specs.Calls.{_>>_, refuse_counting_unless_, falseAt, unknownCount, assigned, decodable, decoding, left, settingsOf}
-use Rattle.sheet.specs.Texts.{refusedLine, settingLines}
+use Rattle.sheet.specs.Texts.{refusedLine, valueLines}
 use Rattle.sheet.specs.Programs.{printed}
 use Rattle.sheet.proofs.Accepted.{accepted-tells, passed-many}
 use Rattle.sheet.proofs.Called.{first-false}
 use Rattle.promise.proofs.Assessor.{settings-meet-the-sheet}
 use Rattle.promise.proofs.Counts.{counts-are-made}
 use Rattle.table.specs.declared.answer.Survey.{Survey}
+use Rattle.table.specs.Surveys.{asSurvey}
 use Rattle.table.proofs.Answers.{left-accepted}
+use Rattle.table.proofs.Rowwise.{known, all-read, few-rows}
+use Rattle.evaluate.specs.Evaluable.{Evaluable}
 use Rattle.program.proofs.Rooms.{writing-sheet}
 use Rattle.assign.specs.Model.{areBits}
 use Rattle.assign.specs.Clauses.{truths}
@@ -32,7 +35,7 @@ use Rattle.print.specs.Pages.{joined}
 use Rattle.setting_lines.specs.Settings.{tablePieces}
 use Rattle.setting_lines.proofs.Settings.{settings-joined}
 use Rattle.setting_lines.proofs.Rows.{pieces-many, piece-fits}
-use Rattle.settings_text.specs.Replies.{Told, settingsText}
+use Rattle.settings_text.specs.Replies.{Told, toldBy, toldText}
 use Rattle.settings_text.proofs.Variables.{taken-accepted}
 
 few-unknowns : (rows : List Fields) → length (unknowns rows) ≤ length rows
@@ -50,7 +53,7 @@ short-pieces [] h = omega arith
 short-pieces (piece ∷ pieces) h =
     rw (length-append piece (joined pieces)) (omega (arith, h 0 (omega arith), short-pieces pieces (λ k q. h (suc k) (omega arith))))
 
-module _ (table bytes : List ℕ) (t : Told table bytes) (map₀ slots₀ values₀ : List ℤ) (m : length map₀ ≡ 12288) (l : length slots₀ ≡ 16384) (v : length values₀ ≡ 256) where
+module _ (all : Bool) (table bytes : List ℕ) (t : Told table bytes) (map₀ slots₀ values₀ : List ℤ) (m : length map₀ ≡ 12288) (l : length slots₀ ≡ 16384) (v : length values₀ ≡ 256) where
   abbrev sheet : Sheet
   sheet = t .taken .sheet
 
@@ -90,16 +93,16 @@ module _ (table bytes : List ℕ) (t : Told table bytes) (map₀ slots₀ values
   unfolding decoding
   does-is = rw could-is
 
-  text-is : settingsText table bytes ≡ printed (judged >> accepted (settingLines 0 (sheet .rows) (readRows sheet (assigned bytes))))
-  unfolding settingsText
-  text-is = rw (t .taken .is)
+  text-is : {o : Outcome (Unit {0})} → judged ≡ o → toldText all table bytes ≡ printed (o >> accepted (toldBy all sheet (assigned bytes)))
+  unfolding toldText
+  text-is q = rw (t .taken .is, q)
 
   module _ {s : Survey} (e : s ≡ asDecoded could does) where
-    pub clause-false : (s .number ≡ 0 → ⊥) → settingsText table bytes ≡ refusedLine (s .number) (s .place)
+    pub clause-false : (s .number ≡ 0 → ⊥) → toldText all table bytes ≡ refusedLine (s .number) (s .place)
     clause-false h = by judged refl
       where
-        by : (o : Outcome (Unit {0})) → judged ≡ o → settingsText table bytes ≡ refusedLine (s .number) (s .place)
-        by (refused n p) q = rw (e, does-is, text-is, q)
+        by : (o : Outcome (Unit {0})) → judged ≡ o → toldText all table bytes ≡ refusedLine (s .number) (s .place)
+        by (refused n p) q = text-is q ∙ rw (e, does-is, q)
         by (accepted u) q = absurd (h (rw (e, does-is, q)))
 
     -- no clause is false
@@ -120,13 +123,32 @@ module _ (table bytes : List ℕ) (t : Told table bytes) (map₀ slots₀ values
       pub numerators-few : s .counts .unknowns ≤ 256
       numerators-few = omega (arith, unknowns-are, unknowns-few)
 
-      pub clauses-true : {values : List ℤ} → values ≡ left does (settingsOf bytes) values₀ → settingsText table bytes ≡ joined (tablePieces table (take (s .counts .unknowns) values))
-      clauses-true {values} f =
-          let told = settings sheet (assigned bytes) in
-          let within = settings-meet-the-sheet table 256 (length map₀) (length slots₀) bytes (length values₀) sheet done .0 in
-          let same : take (s .counts .unknowns) values ≡ told = ap (take (s .counts .unknowns)) (f ∙ sym (left-accepted (settingsOf bytes) values₀ done)) ∙ take-at told (drop (length told) values₀) (s .counts .unknowns) (within .number ∙ sym unknowns-are) in
-          text-is ∙ ap (λ (o : Outcome (Unit {0})). printed (o >> accepted (settingLines 0 (sheet .rows) (readRows sheet (assigned bytes))))) passes
-          ∙ sym (settings-joined table sheet is (assigned bytes)) ∙ sym (ap (λ (vs : List ℤ). joined (tablePieces table vs)) same)
+      module _ {values : List ℤ} (f : values ≡ left does (settingsOf bytes) values₀) where
+        abbrev told : List ℤ
+        told = settings sheet (assigned bytes)
+
+        within : Within (sheet .rows) told
+        within = settings-meet-the-sheet table 256 (length map₀) (length slots₀) bytes (length values₀) sheet done .0
+
+        same : take (s .counts .unknowns) values ≡ told
+        same =
+            ap (take (s .counts .unknowns)) (f ∙ sym (left-accepted (settingsOf bytes) values₀ done))
+            ∙ take-at told (drop (length told) values₀) (s .counts .unknowns) (within .number ∙ sym unknowns-are)
+
+        text-told : {b : Bool} → all ≡ b → toldText all table bytes ≡ toldBy b sheet (assigned bytes)
+        text-told h = text-is passes ∙ ap (λ (b : Bool). toldBy b sheet (assigned bytes)) h
+
+        pub settings-printed : all ≡ false → toldText all table bytes ≡ joined (tablePieces table (take (s .counts .unknowns) values))
+        settings-printed h = text-told h ∙ rw same (sym (settings-joined table sheet is (assigned bytes)))
+
+        surveyed : s ≡ asSurvey (accepted sheet)
+        surveyed = rw (could-is, done) at e
+
+        pub evaluable : Evaluable table (s .rows) (s .records) (take (s .counts .unknowns) values) 256
+        evaluable = record { table-is = known is surveyed; within = rw same within; fits = few-rows (known is surveyed) }
+
+        pub values-printed : all ≡ true → toldText all table bytes ≡ valueLines (rowValues (rowsOf (s .rows) table) (take (s .counts .unknowns) values))
+        values-printed h = text-told h ∙ rw (same, ← all-read (known is surveyed))
 
   pub pieces-short : (vs : List ℤ) → length (joined (tablePieces table vs)) ≤ 16384
   pieces-short vs =

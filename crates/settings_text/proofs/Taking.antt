@@ -1,5 +1,6 @@
 -- What the survey of a table comes to: the line of its refusal, or the program goes on with it. Assumes nothing.
 use mathlib.Core.Path.{_≡_, ap, sym, _∙_}
+use mathlib.Core.Bool.{Bool}
 use mathlib.Core.List.{List}
 use Prim.Native.Nat.{ℕ}
 use native.Mathlib.Omega.{arith}
@@ -13,15 +14,15 @@ use Rattle.program.specs.Sheets.{sheetOf}
 use Rattle.program.proofs.Rooms.{writing-sheet, sheet-numbered}
 use Rattle.settings_text.specs.Replies.{Taken, claimText}
 
-module _ (table : List ℕ) where
+module _ (all : Bool) (table : List ℕ) where
   surveyed : {s : Survey} → s ≡ asSurvey (writing table 256 12288 16384) → s ≡ asSurvey (sheetOf table)
   surveyed e = e ∙ ap asSurvey (writing-sheet table 12288 (omega arith))
 
-  refused-text : (rest : List ℕ) {n p : ℕ} → sheetOf table ≡ refused n p → claimText table rest ≡ refusedLine n p
+  refused-text : (rest : List ℕ) {n p : ℕ} → sheetOf table ≡ refused n p → claimText all table rest ≡ refusedLine n p
   unfolding claimText
   refused-text rest is = rw is
 
-  pub table-printed : (rest : List ℕ) {s : Survey} → s ≡ asSurvey (writing table 256 12288 16384) → (s .number ≡ 0 → ⊥) → claimText table rest ≡ refusedLine (s .number) (s .place)
+  pub table-printed : (rest : List ℕ) {s : Survey} → s ≡ asSurvey (writing table 256 12288 16384) → (s .number ≡ 0 → ⊥) → claimText all table rest ≡ refusedLine (s .number) (s .place)
   table-printed rest e h =
       let (n, p, is, f) = was-refused (sheetOf table) (surveyed e) h in
       refused-text rest is ∙ sym (ap (λ (t : Survey). refusedLine (t .number) (t .place)) f)

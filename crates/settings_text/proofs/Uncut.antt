@@ -11,15 +11,15 @@ use lib.Dec.{eqb}
 use lib.ListN.{length, take, drop, length-append}
 use lib.Seq.{length-take-le, take-all}
 use Rattle.whole.specs.Tests.{if_then_else_}
+use Rattle.circuit.specs.Literals.{Assignment}
 use Rattle.sheet.specs.declared.LinesFound.{LinesFound}
 use Rattle.sheet.specs.Acceptance.{Outcome, refused, accepted, Sheet}
 use Rattle.sheet.specs.Calls.{_>>=_}
 use Rattle.sheet.specs.Texts.{ascii, decimal, satisfiable, unsatisfiable, variableText, variableTexts, modelLine, signAt, signsIn, starts, readLines, claimIn}
-use Rattle.sheet.specs.Programs.{inputOf, sheetIn, printed, settled, settingsProgram}
+use Rattle.sheet.specs.Programs.{inputOf, sheetIn, printed, settled, reply, settingsTold, valuesTold, settingsProgram, valuesProgram}
 use Rattle.print.proofs.Decimals.{length-one, length-more}
 use Rattle.program.proofs.Cut.{drop-cut, read-cut, found-cut}
-use Rattle.settings_text.specs.Replies.{wholeText}
-use Rattle.settings_text.specs.Uncut.{Uncut}
+use Rattle.settings_text.specs.Uncut.{Uncut, ValuesUncut}
 use Rattle.settings_text.proofs.Variables.{taken-few}
 use Rattle.settings_text.proofs.Behind.{read-near}
 use Rattle.settings_text.proofs.Claims.{signs-many}
@@ -95,13 +95,9 @@ claim-cut n k text few h =
 
 -- ---- the whole input
 
-module _ (input : List ℕ) where
-  pub output-is : settingsProgram input ≡ wholeText (inputOf input)
-  unfolding settingsProgram wholeText
-  output-is = refl
-
+module _ (tell : Sheet → Assignment → List ℕ) (input : List ℕ) where
   abbrev answerOf : List ℕ → LinesFound → Outcome Sheet → Outcome (List ℕ)
-  answerOf text l o = o >>= (λ sheet. claimIn (sheet .counts .variables) (drop (l .rest) text) >>= settled sheet)
+  answerOf text l o = o >>= (λ sheet. claimIn (sheet .counts .variables) (drop (l .rest) text) >>= settled tell sheet)
 
   lines-uncut : (l : LinesFound) → readLines true input 2048 ≡ accepted l → answerOf (inputOf input) l (sheetIn (inputOf input) l) ≡ answerOf input l (sheetIn input l)
   lines-uncut l e = ap (answerOf (inputOf input) l) (found-cut true input l e) ∙ by (sheetIn input l) refl
@@ -113,11 +109,20 @@ module _ (input : List ℕ) where
           let near = read-near input l e .1 in
           rw (drop-cut (l .rest) 65536 input, claim-cut (sheet .counts .variables) (65536 - l .rest) (drop (l .rest) input) few (omega (arith, near)))
 
+  reply-uncut : reply tell (inputOf input) ≡ reply tell input
+  unfolding reply
+  reply-uncut = rw (read-cut true input) (by (readLines true input 2048) refl)
+    where
+      by : (o : Outcome LinesFound) → readLines true input 2048 ≡ o
+          → printed (o >>= (λ l. answerOf (inputOf input) l (sheetIn (inputOf input) l))) ≡ printed (o >>= (λ l. answerOf input l (sheetIn input l)))
+      by (refused n p) e = refl
+      by (accepted l) e = ap printed (lines-uncut l e)
+
+-- the cut of the input changes no answer
 pub uncut : Uncut
-unfolding wholeText
-uncut input = output-is input ∙ rw (read-cut true input) (by (readLines true input 2048) refl)
-  where
-    by : (o : Outcome LinesFound) → readLines true input 2048 ≡ o
-        → printed (o >>= (λ l. answerOf input (inputOf input) l (sheetIn (inputOf input) l))) ≡ printed (o >>= (λ l. answerOf input input l (sheetIn input l)))
-    by (refused n p) e = refl
-    by (accepted l) e = ap printed (lines-uncut input l e)
+unfolding settingsProgram
+uncut = reply-uncut settingsTold
+
+pub values-uncut : ValuesUncut
+unfolding valuesProgram
+values-uncut = reply-uncut valuesTold

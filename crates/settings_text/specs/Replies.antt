@@ -1,36 +1,34 @@
--- What the settings program prints, step by step: of a whole text, of a table and the text behind it, of a table and a model; and a model
--- that can be judged. Assumes nothing.
+-- What the settings program and the values program print, step by step: of a table and the text behind it, of a table and a model; and a
+-- model that can be judged. Assumes nothing.
 use mathlib.Core.Path.{_≡_}
-use mathlib.Core.Bool.{true}
+use mathlib.Core.Bool.{Bool, true, false}
 use mathlib.Core.List.{List}
 use Prim.Native.Nat.{ℕ}
-use lib.ListN.{length, drop}
+use lib.ListN.{length}
+use Rattle.circuit.specs.Literals.{Assignment}
 use Rattle.sheet.specs.Values.{every}
 use Rattle.sheet.specs.Acceptance.{accepted, Sheet}
 use Rattle.sheet.specs.Calls.{_>>=_}
-use Rattle.sheet.specs.Texts.{readLines, model, claimIn}
-use Rattle.sheet.specs.Programs.{sheetIn, printed, settled}
+use Rattle.sheet.specs.Texts.{model, claimIn}
+use Rattle.sheet.specs.Programs.{printed, settled, settingsTold, valuesTold}
 use Rattle.program.specs.Sheets.{sheetOf}
 use Rattle.assign.specs.Model.{areBits}
 
--- of a text of any length
-unfoldable pub wholeText : List ℕ → List ℕ
-wholeText text = printed (do
-  lines ← readLines true text 2048
-  sheet ← sheetIn text lines
-  claim ← claimIn (sheet .counts .variables) (drop (lines .rest) text)
-  settled sheet claim)
+-- every row's exact value, or the settings of the unknowns
+abbrev pub toldBy : (all : Bool) → Sheet → Assignment → List ℕ
+toldBy true = valuesTold
+toldBy false = settingsTold
 
-unfoldable pub claimText : (table rest : List ℕ) → List ℕ
-claimText table rest = printed (do
+unfoldable pub claimText : (all : Bool) (table rest : List ℕ) → List ℕ
+claimText all table rest = printed (do
   sheet ← sheetOf table
   claim ← claimIn (sheet .counts .variables) rest
-  settled sheet claim)
+  settled (toldBy all) sheet claim)
 
-unfoldable pub settingsText : (table bytes : List ℕ) → List ℕ
-settingsText table bytes = printed (do
+unfoldable pub toldText : (all : Bool) (table bytes : List ℕ) → List ℕ
+toldText all table bytes = printed (do
   sheet ← sheetOf table
-  settled sheet (model bytes))
+  settled (toldBy all) sheet (model bytes))
 
 -- the program goes on with a table of so many variables
 pub record Taken (table : List ℕ) (variables : ℕ) : Type 0 where

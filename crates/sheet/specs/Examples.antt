@@ -18,11 +18,11 @@ use Rattle.sheet.specs.declared.Record.{Record}
 use Rattle.sheet.specs.Rows.{kindOf, readRow, rowsOf}
 use Rattle.sheet.specs.Values.{numerator, denominator, rowVal, rowValues}
 use Rattle.sheet.specs.Acceptance.{Outcome, refused, accepted, Sheet, judge, walk, accept}
-use Rattle.sheet.specs.Steps.{rowSteps, steps, cells, clausesButLast, lastClause, clauses, slotsFor, readRows, extension}
+use Rattle.sheet.specs.Steps.{rowSteps, steps, cells, clausesButLast, lastClause, clauses, slotsFor, readRows, settings, extension}
 use Rattle.sheet.specs.Calls.{constraint}
-use Rattle.sheet.specs.Texts.{ascii, beginsLine, bytesIn, tableIn, linesFrom, readLines, digitsIn, decimal, signed, slotText, slotTexts, dimacs, settingLines, refusedLine, variableText, variableTexts, modelLine, signAt, signsIn, starts, claimIn}
+use Rattle.sheet.specs.Texts.{ascii, beginsLine, bytesIn, tableIn, linesFrom, readLines, digitsIn, decimal, signed, slotText, slotTexts, dimacs, settingLines, rowLines, refusedLine, variableText, variableTexts, modelLine, signAt, signsIn, starts, claimIn}
 use Rattle.sheet.specs.Dimacs.{pieces, filled, words, digitsBehind, natural, integer, clausesSpelt, behindComments, lineIn, readDimacs}
-use Rattle.sheet.specs.Programs.{clauseProgram, settingsProgram}
+use Rattle.sheet.specs.Programs.{clauseProgram, costsProgram, reply, settingsProgram, valuesProgram}
 
 -- a row's bytes, and those of a number constant by its 32 bits
 abbrev row : (kind p x y z : ℕ) → List ℕ
@@ -68,9 +68,12 @@ truths table vs = shown (λ sheet. map (λ v. pos (bit (constraint sheet (v ∷ 
 abbrev readings : List ℕ → List ℤ → List ℤ
 readings table vs = shown (λ sheet. map numerator (readRows sheet (extension (sheet .rows) vs))) (accept table)
 
--- what the settings program writes, of the lines of a 2-bit natural above 2 and a text behind them
+-- the lines of a 2-bit natural above 2; what the settings program writes of them and a text behind them
+abbrev aboveTwoLines : List ℕ
+aboveTwoLines = ascii "0202000000000001\n0400000000020001\n3000000000010000\n"
+
 abbrev settled : String → List ℤ
-settled text = map pos (settingsProgram (ascii "0202000000000001\n0400000000020001\n3000000000010000\n" ++ ascii text))
+settled text = map pos (settingsProgram (aboveTwoLines ++ ascii text))
 
 -- what a text shows that is read as DIMACS CNF: the variables, and the clauses in slots; nothing where it is none
 abbrev shownCnf : Option (ℕ × List Clause) → List ℤ
@@ -163,6 +166,9 @@ examples =
     ∷ (settled "\ns SATISFIABLE\nv 1 2 3 4 5 -6 7 -8 9 0\n\n" gives map pos (ascii "refused 21 2\n"))
     ∷ (settled "" gives map pos (ascii "refused 21 0\n"))
     ∷ (settled "s SATISFIABLE\n" gives map pos (ascii "refused 20 3\n"))
+    -- the same rows' exact values, and what each costs
+    ∷ (map pos (valuesProgram (aboveTwoLines ++ ascii "\ns SATISFIABLE\nv 1 2 3 4 5 -6 7 -8 9 0\n")) gives map pos (ascii "0 3 1\n1 2 1\n2 1 1\n"))
+    ∷ (map pos (costsProgram aboveTwoLines) gives map pos (ascii "0 0\n1 0\n2 96\n"))
     ∷ (map pos (settingsProgram []) gives map pos (ascii "refused 1 0\n"))
     ∷ (map pos (clauseProgram (ascii "0100000000000000\n010000000000000A\n")) gives map pos (ascii "refused 20 1\n"))
     ∷ (map pos (clauseProgram (ascii "0100000000000000")) gives map pos (ascii "refused 20 0\n"))
@@ -194,5 +200,5 @@ examples =
     ∷ []
 
 pub examples-hold : map (λ (e : Example). e .shows) examples ≡ map (λ (e : Example). e .wanted) examples
-unfolding gcd lcm aProduct expandedWidth anExpansion kindOf readRow rowsOf rowVal rowValues judge walk accept rowSteps steps cells clausesButLast lastClause clauses slotsFor readRows extension constraint beginsLine bytesIn tableIn linesFrom readLines digitsIn decimal signed slotText slotTexts dimacs settingLines refusedLine variableText variableTexts modelLine signAt signsIn starts claimIn bind pieces filled words digitsBehind natural integer clausesSpelt behindComments lineIn readDimacs clauseProgram settingsProgram
+unfolding gcd lcm aProduct expandedWidth anExpansion kindOf readRow rowsOf rowVal rowValues judge walk accept rowSteps steps cells clausesButLast lastClause clauses slotsFor readRows settings extension constraint beginsLine bytesIn tableIn linesFrom readLines digitsIn decimal signed slotText slotTexts dimacs settingLines rowLines refusedLine variableText variableTexts modelLine signAt signsIn starts claimIn bind pieces filled words digitsBehind natural integer clausesSpelt behindComments lineIn readDimacs clauseProgram costsProgram reply settingsProgram valuesProgram
 examples-hold = refl

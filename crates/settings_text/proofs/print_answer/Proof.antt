@@ -22,8 +22,8 @@ returns c =
     let n = d .before .before in
     let f = n .before .before in
     let s = f .before .before .before .before in
-    let line = table-printed (s .args .table .now) (s .args .rest .now) (f .fitting .ensures .0) (n .if1 .taken) in
-    let whole = piece-whole (claimText (s .args .table .now) (s .args .rest .now)) (s .args .out .now) (omega (arith, s .pre)) in
+    let line = table-printed (s .args .all) (s .args .table .now) (s .args .rest .now) (f .fitting .ensures .0) (n .if1 .taken) in
+    let whole = piece-whole (claimText (s .args .all) (s .args .table .now) (s .args .rest .now)) (s .args .out .now) (omega (arith, s .pre)) in
     rw (← line, whole) at (d .refused-line .ensures)
 
 print-claim-requires : tie.Need-print-claim-requires
@@ -31,7 +31,7 @@ print-claim-requires c κs =
     let n = c .before .before in
     let f = c .before .before .before .before in
     let s = f .before .before .before .before in
-    (table-taken (s .args .table .now) (f .fitting .ensures .0) (n .if1 .left), search needs)
+    (table-taken (s .args .all) (s .args .table .now) (f .fitting .ensures .0) (n .if1 .left), search needs)
 
 same-length-2 : tie.Need-same-length-2
 same-length-2 c = search needs

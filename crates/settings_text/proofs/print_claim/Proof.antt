@@ -48,19 +48,19 @@ array-share-prefix-model c =
     let long : length (r .read-claim .last .1 .1 .0) ≡ 10000 = search needs in
     omega (arith, taken-few (s .pre .0), long)
 
-slice-aggregate-print-settings : tie.Need-slice-aggregate-print-settings
-slice-aggregate-print-settings c =
+slice-aggregate-print-model : tie.Need-slice-aggregate-print-model
+slice-aggregate-print-model c =
     let r = c .before .before .before .before in
     let s = r .before .before .before .before .before in
     sym (length-take-le (s .args .variables) (r .read-claim .last .1 .1 .0) (array-share-prefix-model (c .before)))
 
-print-settings-requires : tie.Need-print-settings-requires
-print-settings-requires c κs =
+print-model-requires : tie.Need-print-model-requires
+print-model-requires c κs =
     let m = c .before .before in
     let r = m .before .before .before in
     let s = r .before .before .before .before .before in
     let (answer, model) = r .read-claim .ensures in
-    (model-told (s .args .table .now) (s .args .rest .now) (s .pre .0) blank blank-long (rw (m .enum-told2 .given .1) at answer) model, search needs)
+    (model-told (s .args .all) (s .args .table .now) (s .args .rest .now) (s .pre .0) blank blank-long (rw (m .enum-told2 .given .1) at answer) model, search needs)
 
 same-length : tie.Need-same-length
 same-length c = search needs
@@ -71,8 +71,8 @@ returns c =
     let m = d .before .before .before in
     let r = m .before .before .before in
     let s = r .before .before .before .before .before in
-    let line = refusal-printed (s .args .table .now) (s .args .rest .now) (s .pre .0) blank blank-long (rw (m .claim .given .1) at (r .read-claim .ensures .0)) in
-    let whole = piece-whole (claimText (s .args .table .now) (s .args .rest .now)) (s .args .out .now) (omega (arith, s .pre .1)) in
+    let line = refusal-printed (s .args .all) (s .args .table .now) (s .args .rest .now) (s .pre .0) blank blank-long (rw (m .claim .given .1) at (r .read-claim .ensures .0)) in
+    let whole = piece-whole (claimText (s .args .all) (s .args .table .now) (s .args .rest .now)) (s .args .out .now) (omega (arith, s .pre .1)) in
     rw (← line, whole) at (d .refused-line .ensures)
 
 same-length-2 : tie.Need-same-length-2
@@ -84,8 +84,8 @@ returns-2 c =
     let m = d .before .before in
     let r = m .before .before .before in
     let s = r .before .before .before .before .before in
-    let line = none-printed (s .args .table .now) (s .args .rest .now) (s .pre .0) blank blank-long (rw (m .enum-told .given .1) at (r .read-claim .ensures .0)) in
-    let whole = piece-whole (claimText (s .args .table .now) (s .args .rest .now)) (s .args .out .now) (omega (arith, s .pre .1)) in
+    let line = none-printed (s .args .all) (s .args .table .now) (s .args .rest .now) (s .pre .0) blank blank-long (rw (m .enum-told .given .1) at (r .read-claim .ensures .0)) in
+    let whole = piece-whole (claimText (s .args .all) (s .args .table .now) (s .args .rest .now)) (s .args .out .now) (omega (arith, s .pre .1)) in
     rw (← line, whole) at (d .none-claimed-line .ensures)
 
 same-length-3 : tie.Need-same-length-3
@@ -98,8 +98,8 @@ returns-3 c =
     let r = m .before .before .before in
     let s = r .before .before .before .before .before in
     let (answer, model) = r .read-claim .ensures in
-    let text = model-printed (s .args .table .now) (s .args .rest .now) (s .pre .0) blank blank-long (rw (m .enum-told2 .given .1) at answer) model in
-    rw (← text) at (d .print-settings .ensures)
+    let text = model-printed (s .args .all) (s .args .table .now) (s .args .rest .now) (s .pre .0) blank blank-long (rw (m .enum-told2 .given .1) at answer) model in
+    rw (← text) at (d .print-model .ensures)
 
 pub print-claim-spec : {M : Type 1} → statement M
 print-claim-spec =
@@ -113,8 +113,8 @@ print-claim-spec =
     none-claimed-line-requires
     enum-told-2
     array-share-prefix-model
-    slice-aggregate-print-settings
-    print-settings-requires
+    slice-aggregate-print-model
+    print-model-requires
     same-length
     returns
     same-length-2

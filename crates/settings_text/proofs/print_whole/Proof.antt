@@ -8,9 +8,10 @@ use borrow.Author.Needs.{needs}
 use lib.ListN.{length, replicate, length-replicate}
 use lib.Seq.{length-take-le}
 use Rattle.frame.proofs.Frames.{rest-all}
+use Rattle.sheet.specs.Programs.{reply}
 use Rattle.print.proofs.Pieces.{piece-whole}
 use Rattle.program.proofs.Tables.{found-few, found-table}
-use Rattle.settings_text.specs.Replies.{wholeText}
+use Rattle.settings_text.specs.Replies.{toldBy}
 use Rattle.settings_text.proofs.Behind.{lines-printed, behind-within, found-printed}
 use Rattle.settings_text.proofs.print_whole.Statement.{statement}
 use Rattle.settings_text.proofs.print_whole.Tie as tie
@@ -63,7 +64,7 @@ sub-print-answer c =
     let r = c .before .before .before in
     let l = r .before .before .before in
     let s = l .before .before .before .before in
-    behind-within (s .args .text .now) blank blank-long (r .read2 .given .0 .0) (rw (r .read2 .given .1) at (l .read-lines-until-empty .ensures .0))
+    behind-within (s .args .all) (s .args .text .now) blank blank-long (r .read2 .given .0 .0) (rw (r .read2 .given .1) at (l .read-lines-until-empty .ensures .0))
 
 part-print-answer-start : tie.Need-part-print-answer-start
 part-print-answer-start c = sub-print-answer c
@@ -83,8 +84,8 @@ returns c =
     let r = d .before .before .before in
     let l = r .before .before .before in
     let s = l .before .before .before .before in
-    let line = lines-printed (s .args .text .now) blank blank-long (rw (r .read .given .1) at (l .read-lines-until-empty .ensures .0)) in
-    let whole = piece-whole (wholeText (s .args .text .now)) (s .args .out .now) (omega (arith, s .pre)) in
+    let line = lines-printed (s .args .all) (s .args .text .now) blank blank-long (rw (r .read .given .1) at (l .read-lines-until-empty .ensures .0)) in
+    let whole = piece-whole (reply (toldBy (s .args .all)) (s .args .text .now)) (s .args .out .now) (omega (arith, s .pre)) in
     rw (← line, whole) at (d .refused-line .ensures)
 
 same-length-2 : tie.Need-same-length-2
@@ -99,7 +100,7 @@ returns-2 c =
     let text = s .args .text .now in
     let found = r .read2 .given .0 .0 in
     let e = rw (r .read2 .given .1) at (l .read-lines-until-empty .ensures .0) in
-    rw (found-table true text blank blank-long found e (l .read-lines-until-empty .ensures .1), rest-all (found .rest) text, ← found-printed text blank blank-long found e) at (w .print-answer .ensures)
+    rw (found-table true text blank blank-long found e (l .read-lines-until-empty .ensures .1), rest-all (found .rest) text, ← found-printed (s .args .all) text blank blank-long found e) at (w .print-answer .ensures)
 
 pub print-whole-spec : {M : Type 1} → statement M
 print-whole-spec =

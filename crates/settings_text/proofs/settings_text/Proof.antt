@@ -2,7 +2,7 @@
 use mathlib.Core.Path.{sym}
 use borrow.Author.Needs.{needs}
 use lib.Seq.{length-take-le}
-use Rattle.settings_text.proofs.Uncut.{output-is}
+use Rattle.sheet.specs.Programs.{settingsProgram}
 use Rattle.settings_text.proofs.settings_text.Statement.{statement}
 use Rattle.settings_text.proofs.settings_text.Tie as tie
 
@@ -21,11 +21,11 @@ same-length : tie.Need-same-length
 same-length c = search needs
 
 returns : tie.Need-returns
+unfolding settingsProgram
 returns c =
     let w = c .before .before in
     let u = w .before .before .before in
-    let s = u .before .before .before in
-    rw (u .used .ensures .1, ← output-is (s .args .input .now)) at (w .print-whole .ensures)
+    rw (u .used .ensures .1) at (w .print-whole .ensures)
 
 pub settings-text-spec : {M : Type 1} → statement M
 settings-text-spec =

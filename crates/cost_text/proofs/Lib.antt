@@ -1,0 +1,2 @@
+-- Laws of the costs program's output. Assumes nothing.
+pub mod Output

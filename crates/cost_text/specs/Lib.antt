@@ -1,0 +1,2 @@
+-- What is printed of a table's costs. Assumes nothing.
+pub mod Costs

@@ -1,0 +1,3 @@
+-- Laws of the lines of rows. Assumes nothing.
+pub mod Lines
+pub mod Numbers

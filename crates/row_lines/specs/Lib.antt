@@ -1,0 +1,2 @@
+-- What the printers of rows promise. Assumes nothing.
+pub mod Numbers
