@@ -38,7 +38,7 @@ fn main() -> ExitCode {
     compare_programs(seed, rounds / 10, &mut report);
     if report.differences.is_empty() {
         let solvers = solvers();
-        try_demand(seed, rounds / 10, &solvers, &mut report);
+        try_demand(seed, rounds / 20, &solvers, &mut report);
         try_solvers(seed, rounds / 30, &solvers, &mut report);
     } else {
         println!("skipped: demand 3 and solvers (the calls or the programs differ already)");
@@ -99,7 +99,7 @@ fn try_demand(seed: u64, rounds: u64, solvers: &[Solver], report: &mut Report) {
     let mut of: Vec<(u64, Box<dyn Library>)> = vec![(rounds, Box::new(Plain))];
     match library() {
         // a call through the pipe takes longer
-        Some(library) => of.push((rounds / 3, Box::new(library))),
+        Some(library) => of.push((rounds / 2, Box::new(library))),
         None => {
             println!("skipped: demand 3 on the library (SERVER is not set); it is tried on the plain implementation")
         }
@@ -109,7 +109,7 @@ fn try_demand(seed: u64, rounds: u64, solvers: &[Solver], report: &mut Report) {
         for round in 0..rounds as usize {
             // each solver in its turn
             let solver = solvers.get(round % solvers.len().max(1));
-            demand::tiny_table(&mut random, &mut *library, report);
+            (0..4).for_each(|_| demand::tiny_table(&mut random, &mut *library, report));
             demand::small_table(&mut random, &mut *library, solver, report);
             demand::any_table(&mut random, &mut *library, solver, report);
         }
@@ -117,6 +117,9 @@ fn try_demand(seed: u64, rounds: u64, solvers: &[Solver], report: &mut Report) {
 }
 
 fn try_solvers(seed: u64, rounds: u64, solvers: &[Solver], report: &mut Report) {
+    if solvers.is_empty() {
+        return;
+    }
     let mut library: Box<dyn Library> = match library() {
         Some(library) => Box::new(library),
         None => {

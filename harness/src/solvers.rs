@@ -31,7 +31,8 @@ impl Solver {
     /// The model found, or none.
     pub fn solve(&self, dimacs: &str, variables: usize) -> Result<Option<Model>, String> {
         let (status, text) = self.answer(dimacs)?;
-        read(status, &text, variables).map_err(|why| format!("{why}: status {status:?}, {text:?}"))
+        let start: String = text.chars().take(200).collect();
+        read(status, &text, variables).map_err(|why| format!("{why}: status {status:?}, {start:?}"))
     }
 
     /// Runs the solver: its status, and the text that tells what it found.
@@ -179,7 +180,10 @@ fn none(sheet: &Sheet) -> Result<(), String> {
 
 #[cfg(test)]
 mod tests {
-    use super::read;
+    use super::{read, Solver};
+    use crate::clauses::Clauses;
+    use std::collections::BTreeSet;
+    use std::os::unix::fs::PermissionsExt;
 
     #[test]
     fn answers_are_read() {
@@ -203,5 +207,28 @@ mod tests {
         ] {
             assert!(read(status, text, 3).is_err(), "{text}");
         }
+    }
+
+    /// Why a solver of one line of shell is wrong about `1 or 2`, which has three models, of which two are expected.
+    fn finds(name: &str, line: &str) -> String {
+        let folder = std::env::temp_dir().join(format!("harness-{name}-{}", std::process::id()));
+        std::fs::create_dir_all(&folder).expect("a folder can be made");
+        let script = folder.join("solver");
+        std::fs::write(&script, format!("#!/bin/sh\n{line}\n")).expect("it can be written");
+        std::fs::set_permissions(&script, PermissionsExt::from_mode(0o755)).expect("it can be a command");
+        let solver = Solver { command: script.display().to_string(), folder: folder.clone() };
+        let models = BTreeSet::from([vec![0, 1], vec![1, 0]]);
+        let found = solver.finds_only(&Clauses { variables: 2, list: vec![vec![1, 2]] }, &models);
+        std::fs::remove_dir_all(folder).expect("it can be removed");
+        found.expect_err("no solver of one line is right")
+    }
+
+    #[test]
+    fn wrong_solvers_are_told() {
+        assert!(finds("dies", "exit 3").starts_with("its answer can't be understood"));
+        assert!(finds("gives-up", "echo s UNSATISFIABLE; exit 20").starts_with("it does not find 2 of 2 models"));
+        assert!(finds("lies", "echo s SATISFIABLE; echo v -1 -2 0; exit 10").starts_with("its model makes a clause"));
+        assert!(finds("repeats", "echo s SATISFIABLE; echo v 1 -2 0; exit 10").starts_with("its model makes a clause"));
+        assert!(finds("goes-on", "echo s SATISFIABLE; echo v 1 2 0; exit 10").starts_with("it finds another model"));
     }
 }
