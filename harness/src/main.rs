@@ -84,7 +84,7 @@ fn compare_calls(seed: u64, rounds: u64, report: &mut Report) {
 fn compare_programs(seed: u64, rounds: u64, report: &mut Report) {
     let mut processes = processes();
     let mut random = Random::new(seed ^ 1 << 32);
-    let of: [(&str, fn(&mut Random, &mut dyn Programs, &mut Report)); 3] =
+    let of: [(&str, programs::Comparison); 3] =
         [("CLAUSES", programs::clauses), ("SETTINGS", programs::settings), ("VALUES", programs::values)];
     for (name, compare) in of {
         if words(name).is_none() {

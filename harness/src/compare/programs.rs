@@ -9,6 +9,9 @@ use crate::plain::programs::SLOTS;
 use crate::random::Random;
 use crate::report::Report;
 
+/// Compares one program once.
+pub type Comparison = fn(&mut Random, &mut dyn Programs, &mut Report);
+
 /// Compares each program once.
 pub fn round(random: &mut Random, programs: &mut dyn Programs, report: &mut Report) {
     clauses(random, programs, report);
