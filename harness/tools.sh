@@ -26,10 +26,10 @@ find_library() {
     SERVER="$(emulator) $PWD/target/server"
 }
 
-# Sets CLAUSES and SETTINGS to the commands of the two programs, which must be built.
+# Sets CLAUSES, SETTINGS and VALUES to the commands of the programs, which must be built.
 find_programs() {
-    CLAUSES='' SETTINGS=''
-    find_program clauses && CLAUSES=$found && find_program settings && SETTINGS=$found
+    CLAUSES='' SETTINGS='' VALUES=''
+    find_program clauses && CLAUSES=$found && find_program settings && SETTINGS=$found && find_program values && VALUES=$found
 }
 
 find_program() { # NAME
@@ -43,11 +43,12 @@ find_program() { # NAME
     found="${runner[*]} $root/target/bin/$1"
 }
 
-# Sets SOLVERS to the solvers that are installed, or can be.
+# Sets SOLVERS to the solvers; each must be installed, or be there to install.
 find_solvers() {
-    local pair
+    local pair missing=0
     SOLVERS=
     for pair in cadical:cadical minisat:minisat picosat:picosat cryptominisat5:cryptominisat; do
-        if need "${pair%:*}" "${pair#*:}"; then SOLVERS="$SOLVERS ${pair%:*}"; fi
+        if need "${pair%:*}" "${pair#*:}"; then SOLVERS="$SOLVERS ${pair%:*}"; else missing=1; fi
     done
+    return "$missing"
 }

@@ -157,7 +157,7 @@ impl Bench {
 /// A program's start, on a text that it refuses at once, and how fast it makes a clause text behind that.
 fn time_program(command: &str, input: &[u8], bytes: usize) -> (f64, f64) {
     let words = command.split_whitespace().map(String::from).collect();
-    let mut program = Processes { clauses: words, settings: vec![] };
+    let mut program = Processes { clauses: words, settings: vec![], values: vec![] };
     let start = time(|| program.clauses(b"-"));
     let all = time(|| program.clauses(input));
     (start / 1e3, bytes as f64 / (all - start) * 1e3)

@@ -1,5 +1,6 @@
 //! A library's calls with buffers of the right lengths: the answer, or the refusal.
 
+use crate::clauses::{Clauses, Model};
 use crate::library::Library;
 use crate::record::{Buffers, Record, Refusal};
 
@@ -10,10 +11,10 @@ pub struct Measured {
 }
 
 impl Buffers {
-    /// Each clause's literals.
-    pub fn clauses(&self) -> Vec<Vec<i32>> {
+    /// The clauses in the slots, over so many variables.
+    pub fn clauses(&self, variables: usize) -> Clauses {
         let parts = self.slots.split_inclusive(|&l| l == 0);
-        parts.map(|part| part[..part.len() - 1].to_vec()).collect()
+        Clauses { variables, list: parts.map(|part| part[..part.len() - 1].to_vec()).collect() }
     }
 
     /// A row's literals.
@@ -55,7 +56,7 @@ pub fn evaluate(library: &mut dyn Library, table: &[u8], values: &[i64]) -> Resu
     answer(number, place, results)
 }
 
-pub fn extend(library: &mut dyn Library, table: &[u8], values: &[i64]) -> Result<(Vec<u8>, bool), Refusal> {
+pub fn extend(library: &mut dyn Library, table: &[u8], values: &[i64]) -> Result<(Model, bool), Refusal> {
     let mut model = vec![0; measure(library, table)?.variables];
     let (mut truth, mut place) = (0, 0);
     let number = library.extend(table, values, &mut model, &mut truth, &mut place);

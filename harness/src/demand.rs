@@ -1,6 +1,8 @@
-//! Demand 3, from outside: that the clauses say what the sheet says, tried on a library by search and by exact fractions.
+//! Demand 3, from outside: that the clauses say what the sheet says, tried on a library by exact fractions, by all assignments where there
+//! are few variables, and by bought solvers where there are more.
 
 use crate::ask;
+use crate::clauses::{holds, meets, Clauses, Model};
 use crate::fractions::{worth, Fraction};
 use crate::generate::{tables, values};
 use crate::library::Library;
@@ -9,7 +11,7 @@ use crate::plain::print::lines;
 use crate::random::Random;
 use crate::record::{Buffers, Refusal};
 use crate::report::Report;
-use crate::search;
+use crate::solvers::Solver;
 use std::collections::BTreeSet;
 
 /// Every list of values within the declared bits.
@@ -23,15 +25,6 @@ pub fn all_values(sheet: &Sheet) -> Vec<Vec<i64>> {
     lists
 }
 
-/// Whether a literal is true in a model.
-fn holds(model: &[u8], literal: i32) -> bool {
-    model[literal.unsigned_abs() as usize - 1] == u8::from(literal > 0)
-}
-
-fn meets(model: &[u8], clause: &[i32]) -> bool {
-    clause.iter().any(|&l| holds(model, l))
-}
-
 /// The number that bits say in two's complement; a single bit of a Boolean is 0 or 1.
 fn number_of(model: &[u8], literals: &[i32], sort: u32) -> i64 {
     let sign = literals.len() - 1;
@@ -39,28 +32,34 @@ fn number_of(model: &[u8], literals: &[i32], sort: u32) -> i64 {
     (0..=sign).filter(|&j| holds(model, literals[j])).map(weight).sum()
 }
 
-/// A table and what the library wrote for it.
-struct Case<'a> {
-    table: &'a [u8],
+/// A table and what the library wrote for it; its clauses are all but the last, and the last.
+struct Case {
+    table: Vec<u8>,
     sheet: Sheet,
     written: Buffers,
-    clauses: Vec<Vec<i32>>,
+    but_the_last: Clauses,
+    last: Vec<i32>,
 }
 
-impl<'a> Case<'a> {
-    fn new(library: &mut dyn Library, table: &'a [u8]) -> Case<'a> {
-        let sheet = accept(table).expect("the generator's tables pass");
-        let written = ask::write(library, table).expect("the library accepts what the document accepts");
-        let clauses = written.clauses();
-        Case { table, sheet, written, clauses }
+/// The models that carry values: all values, and those of which the sheet is true.
+#[derive(Default)]
+struct Extensions {
+    all: BTreeSet<Model>,
+    true_ones: BTreeSet<Model>,
+}
+
+impl Case {
+    fn new(library: &mut dyn Library, table: Vec<u8>) -> Case {
+        let sheet = accept(&table).expect("the generator's tables pass");
+        let measured = ask::measure(library, &table).expect("the library accepts what the document accepts");
+        let written = ask::write(library, &table).expect("the library writes what it measures");
+        let mut but_the_last = written.clauses(measured.variables);
+        let last = but_the_last.list.pop().expect("the last row has its unit");
+        Case { table, sheet, written, but_the_last, last }
     }
 
-    fn but_the_last(&self) -> &[Vec<i32>] {
-        &self.clauses[..self.clauses.len() - 1]
-    }
-
-    fn variables(&self) -> usize {
-        self.sheet.counts.variables as usize
+    fn clauses(&self) -> Clauses {
+        self.but_the_last.and([self.last.clone()])
     }
 
     /// What the literals of an unknown are where it has a value.
@@ -74,14 +73,14 @@ impl<'a> Case<'a> {
     }
 
     fn tell(&self, list: &[i64]) -> String {
-        format!("values {list:?}\n{}", lines(self.table))
+        format!("values {list:?}\n{}", lines(&self.table))
     }
 }
 
 /// What must hold at one list of values; answers the model and whether the constraint is true.
-fn at_values(library: &mut dyn Library, case: &Case, list: &[i64], report: &mut Report) -> (Vec<u8>, bool) {
-    let results = ask::evaluate(library, case.table, list).expect("the values are within their bits");
-    let (model, truth) = ask::extend(library, case.table, list).expect("the values are within their bits");
+fn at_values(library: &mut dyn Library, case: &Case, list: &[i64], report: &mut Report) -> (Model, bool) {
+    let results = ask::evaluate(library, &case.table, list).expect("the values are within their bits");
+    let (model, truth) = ask::extend(library, &case.table, list).expect("the values are within their bits");
     let exact = worth(&case.sheet.rows, list);
     let records = &case.written.records;
     let same = |r: usize| Fraction::new(results[r].into(), records[r].denominator.into()) == exact[r];
@@ -98,55 +97,74 @@ fn at_values(library: &mut dyn Library, case: &Case, list: &[i64], report: &mut 
     report.hold("demand 3: rows are worth their exact fractions", rows.clone().all(same), || case.tell(list));
     report.hold("demand 3: rows fit their widths", rows.clone().all(fits), || case.tell(list));
     report.hold("demand 3: bits read as the rows' values", rows.clone().all(reads), || case.tell(list));
-    let met = case.but_the_last().iter().all(|clause| meets(&model, clause));
+    let met = case.but_the_last.met_by(&model);
     report.hold("demand 3: the extension meets every clause but the last", met, || case.tell(list));
-    let last = meets(&model, &case.clauses[case.clauses.len() - 1]);
-    let right = last == truth && truth == (exact[results.len() - 1] == Fraction::new(1, 1));
+    let right = meets(&model, &case.last) == truth && truth == (exact[results.len() - 1] == Fraction::new(1, 1));
     report.hold("demand 3: the last clause is the constraint", right, || case.tell(list));
     (model, truth)
 }
 
-/// All values and all models of one small table.
-pub fn small_table(random: &mut Random, library: &mut dyn Library, report: &mut Report) {
-    let taste = tables::small(random, 8);
-    let table = tables::table(random, &taste);
-    let case = Case::new(library, &table);
-    let (mut all, mut true_ones) = (BTreeSet::new(), BTreeSet::new());
+/// What must hold at every list of values; answers the models.
+fn at_all_values(library: &mut dyn Library, case: &Case, report: &mut Report) -> Extensions {
+    let mut extensions = Extensions::default();
     for list in all_values(&case.sheet) {
-        let (model, truth) = at_values(library, &case, &list, report);
-        decodes(library, &case, &list, &model, truth, report);
+        let (model, truth) = at_values(library, case, &list, report);
+        decodes(library, case, &list, &model, truth, report);
         if truth {
-            true_ones.insert(model.clone());
+            extensions.true_ones.insert(model.clone());
         }
-        all.insert(model);
+        extensions.all.insert(model);
     }
-    let search = |clauses: &[Vec<i32>]| search::models(clauses, case.variables(), all.len() + 1);
-    let alone = search(case.but_the_last()).into_iter().collect::<BTreeSet<_>>() == all;
-    report.hold("demand 3: no other assignment meets every clause but the last", alone, || lines(&table));
-    let models = search(&case.clauses).into_iter().collect::<BTreeSet<_>>() == true_ones;
-    report.hold("demand 3: the models are the extensions of true values", models, || lines(&table));
+    extensions
 }
 
 /// A model decodes to its values, or is refused at the last clause.
 fn decodes(library: &mut dyn Library, case: &Case, list: &[i64], model: &[u8], truth: bool, report: &mut Report) {
-    let found = ask::decode(library, case.table, model, list.len());
+    let found = ask::decode(library, &case.table, model, list.len());
     let right = match truth {
         true => found == Ok(list.to_vec()),
-        false => found == Err(Refusal { number: 19, place: case.clauses.len() as u32 }),
+        false => found == Err(Refusal { number: 19, place: case.but_the_last.list.len() as u32 + 1 }),
     };
     report.hold("demand 3: decoding gives the values back", right, || case.tell(list));
 }
 
-/// Some values of one table of any size.
-pub fn any_table(random: &mut Random, library: &mut dyn Library, report: &mut Report) {
+/// All values and all assignments of one table of few variables.
+pub fn tiny_table(random: &mut Random, library: &mut dyn Library, report: &mut Report) {
+    let taste = tables::tiny(random);
+    let case = Case::new(library, tables::table(random, &taste));
+    let extensions = at_all_values(library, &case, report);
+    let alone = case.but_the_last.met_by_which() == extensions.all;
+    let kind = "demand 3: of all assignments, the extensions and no others meet every clause but the last";
+    report.hold(kind, alone, || lines(&case.table));
+    let models = case.clauses().met_by_which() == extensions.true_ones;
+    let kind = "demand 3: of all assignments, the extensions of true values and no others meet all clauses";
+    report.hold(kind, models, || lines(&case.table));
+}
+
+/// All values of one small table, and all models, by a solver.
+pub fn small_table(random: &mut Random, library: &mut dyn Library, solver: Option<&Solver>, report: &mut Report) {
+    let taste = tables::small(random, 8);
+    let case = Case::new(library, tables::table(random, &taste));
+    let extensions = at_all_values(library, &case, report);
+    let Some(solver) = solver else { return };
+    let kind = "no other assignment meets every clause but the last";
+    let found = solver.finds_only(&case.but_the_last, &extensions.all);
+    solver.hold(kind, found, || lines(&case.table), report);
+    let kind = "the models are the extensions of true values";
+    let found = solver.finds_only(&case.clauses(), &extensions.true_ones);
+    solver.hold(kind, found, || lines(&case.table), report);
+}
+
+/// Some values of one table of any size, and by a solver that no other assignment carries them.
+pub fn any_table(random: &mut Random, library: &mut dyn Library, solver: Option<&Solver>, report: &mut Report) {
     let taste = tables::taste(random);
-    let table = tables::table(random, &taste);
-    let case = Case::new(library, &table);
+    let case = Case::new(library, tables::table(random, &taste));
     for _ in 0..2 {
         let list = values::values(random, &case.sheet);
         let (model, _) = at_values(library, &case, &list, report);
-        let with_values = [case.but_the_last(), &case.carrying(&list)].concat();
-        let alone = search::models(&with_values, case.variables(), 2) == [model];
-        report.hold("demand 3: one assignment carries the values", alone, || case.tell(&list));
+        let Some(solver) = solver else { continue };
+        let with_values = case.but_the_last.and(case.carrying(&list));
+        let found = solver.finds_only(&with_values, &BTreeSet::from([model]));
+        solver.hold("one assignment carries the values", found, || case.tell(&list), report);
     }
 }

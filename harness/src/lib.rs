@@ -1,6 +1,7 @@
 //! Evidence from outside: document 01 implemented once more, and everything that is compared with it.
 
 pub mod ask;
+pub mod clauses;
 pub mod compare;
 pub mod demand;
 pub mod fractions;
@@ -12,5 +13,4 @@ pub mod processes;
 pub mod random;
 pub mod record;
 pub mod report;
-pub mod search;
 pub mod solvers;

@@ -1,4 +1,4 @@
-//! What is compared: the calls of include/fordrambler.h and the two programs, whoever provides them.
+//! What is compared: the calls of include/fordrambler.h and the programs, whoever provides them.
 
 use crate::record::Record;
 
@@ -56,13 +56,14 @@ pub trait Library {
     fn read_claim(&mut self, text: &[u8], variables: u32, model: &mut [u8], claim: &mut u8, place: &mut u32) -> u32;
 }
 
-/// The two programs: input to output.
+/// The programs: input to output.
 pub trait Programs {
     fn clauses(&mut self, input: &[u8]) -> Vec<u8>;
     fn settings(&mut self, input: &[u8]) -> Vec<u8>;
+    fn values(&mut self, input: &[u8]) -> Vec<u8>;
 }
 
-/// Makes a type a library and a pair of programs out of a module like `plain`.
+/// Makes a type a library and the programs out of a module like `plain`.
 #[macro_export]
 macro_rules! provide {
     ($name:ident, $module:path) => {
@@ -135,6 +136,9 @@ macro_rules! provide {
                 }
                 fn settings(&mut self, input: &[u8]) -> Vec<u8> {
                     source::programs::settings(input).into_bytes()
+                }
+                fn values(&mut self, input: &[u8]) -> Vec<u8> {
+                    source::programs::values(input).into_bytes()
                 }
             }
         };

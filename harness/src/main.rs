@@ -1,5 +1,5 @@
 //! Runs the comparisons. What is compared comes in the environment, as harness/run sets it:
-//! SEED; SERVER, the command of the server that makes the library's calls; CLAUSES and SETTINGS, the commands of the two programs;
+//! SEED; SERVER, the command of the server that makes the library's calls; CLAUSES, SETTINGS and VALUES, the commands of the programs;
 //! SOLVERS, the names of solvers; FOLDER, for files in passing; ROUNDS, how much to do. What is not set is left out, and said so.
 
 use harness::compare::{calls, programs};
@@ -37,8 +37,9 @@ fn main() -> ExitCode {
     compare_calls(seed, rounds, &mut report);
     compare_programs(seed, rounds / 10, &mut report);
     if report.differences.is_empty() {
-        try_demand(seed, rounds / 10, &mut report);
-        try_solvers(seed, rounds / 30, &mut report);
+        let solvers = solvers();
+        try_demand(seed, rounds / 20, &solvers, &mut report);
+        try_solvers(seed, rounds / 30, &solvers, &mut report);
     } else {
         println!("skipped: demand 3 and solvers (the calls or the programs differ already)");
     }
@@ -50,9 +51,19 @@ fn library() -> Option<Piped> {
     words("SERVER").map(|command| Piped::start(&command))
 }
 
-/// Both programs; the command of one that is not set has no words.
+/// The programs; the command of one that is not set has no words.
 fn processes() -> Processes {
-    Processes { clauses: words("CLAUSES").unwrap_or_default(), settings: words("SETTINGS").unwrap_or_default() }
+    let [clauses, settings, values] = ["CLAUSES", "SETTINGS", "VALUES"].map(|name| words(name).unwrap_or_default());
+    Processes { clauses, settings, values }
+}
+
+/// The solvers that are set.
+fn solvers() -> Vec<Solver> {
+    let (Some(names), Some(folder)) = (words("SOLVERS"), words("FOLDER")) else {
+        println!("skipped: solvers (SOLVERS or FOLDER is not set)");
+        return vec![];
+    };
+    names.into_iter().map(|command| Solver { command, folder: PathBuf::from(&folder[0]) }).collect()
 }
 
 fn compare_calls(seed: u64, rounds: u64, report: &mut Report) {
@@ -73,43 +84,42 @@ fn compare_calls(seed: u64, rounds: u64, report: &mut Report) {
 fn compare_programs(seed: u64, rounds: u64, report: &mut Report) {
     let mut processes = processes();
     let mut random = Random::new(seed ^ 1 << 32);
-    if processes.clauses.is_empty() {
-        println!("skipped: the clause program (CLAUSES is not set)");
-    } else {
-        (0..rounds).for_each(|_| programs::clauses(&mut random, &mut processes, report));
-    }
-    if processes.settings.is_empty() {
-        println!("skipped: the settings program (SETTINGS is not set)");
-    } else {
-        (0..rounds).for_each(|_| programs::settings(&mut random, &mut processes, report));
+    let of: [(&str, programs::Comparison); 3] =
+        [("CLAUSES", programs::clauses), ("SETTINGS", programs::settings), ("VALUES", programs::values)];
+    for (name, compare) in of {
+        if words(name).is_none() {
+            println!("skipped: a program ({name} is not set)");
+            continue;
+        }
+        (0..rounds).for_each(|_| compare(&mut random, &mut processes, report));
     }
 }
 
-fn try_demand(seed: u64, rounds: u64, report: &mut Report) {
+fn try_demand(seed: u64, rounds: u64, solvers: &[Solver], report: &mut Report) {
     let mut of: Vec<(u64, Box<dyn Library>)> = vec![(rounds, Box::new(Plain))];
     match library() {
         // a call through the pipe takes longer
-        Some(library) => of.push((rounds / 3, Box::new(library))),
+        Some(library) => of.push((rounds / 2, Box::new(library))),
         None => {
             println!("skipped: demand 3 on the library (SERVER is not set); it is tried on the plain implementation")
         }
     }
     for (rounds, mut library) in of {
         let mut random = Random::new(seed ^ 2 << 32);
-        for _ in 0..rounds {
-            demand::small_table(&mut random, &mut *library, report);
-            demand::any_table(&mut random, &mut *library, report);
+        for round in 0..rounds as usize {
+            // each solver in its turn
+            let solver = solvers.get(round % solvers.len().max(1));
+            (0..4).for_each(|_| demand::tiny_table(&mut random, &mut *library, report));
+            demand::small_table(&mut random, &mut *library, solver, report);
+            demand::any_table(&mut random, &mut *library, solver, report);
         }
     }
 }
 
-fn try_solvers(seed: u64, rounds: u64, report: &mut Report) {
-    let (Some(names), Some(folder)) = (words("SOLVERS"), words("FOLDER")) else {
-        println!("skipped: solvers (SOLVERS or FOLDER is not set)");
+fn try_solvers(seed: u64, rounds: u64, solvers: &[Solver], report: &mut Report) {
+    if solvers.is_empty() {
         return;
-    };
-    let solvers: Vec<Solver> =
-        names.into_iter().map(|command| Solver { command, folder: PathBuf::from(&folder[0]) }).collect();
+    }
     let mut library: Box<dyn Library> = match library() {
         Some(library) => Box::new(library),
         None => {
@@ -117,16 +127,16 @@ fn try_solvers(seed: u64, rounds: u64, report: &mut Report) {
             Box::new(Plain)
         }
     };
-    let processes = processes();
-    let mut programs: Box<dyn Programs> = if processes.clauses.is_empty() || processes.settings.is_empty() {
-        println!("solvers: the plain implementation stands for the programs (CLAUSES or SETTINGS is not set)");
-        Box::new(Plain)
-    } else {
-        Box::new(processes)
+    let mut programs: Box<dyn Programs> = match ["CLAUSES", "SETTINGS", "VALUES"].map(words) {
+        [Some(_), Some(_), Some(_)] => Box::new(processes()),
+        _ => {
+            println!("solvers: the plain implementation stands for the programs (one is not set)");
+            Box::new(Plain)
+        }
     };
     let mut random = Random::new(seed ^ 3 << 32);
     for _ in 0..rounds {
-        solvers::round(&mut random, &solvers, &mut *library, &mut *programs, report);
+        solvers::round(&mut random, solvers, &mut *library, &mut *programs, report);
     }
 }
 

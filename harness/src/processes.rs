@@ -1,13 +1,15 @@
-//! The two programs as processes.
+//! The programs as processes.
 
 use crate::library::Programs;
-use std::io::Write;
+use crate::plain::programs::INPUT;
+use std::io::{Read, Write};
 use std::process::{Command, Stdio};
 
 /// The commands that run the programs, each a program and its words.
 pub struct Processes {
     pub clauses: Vec<String>,
     pub settings: Vec<String>,
+    pub values: Vec<String>,
 }
 
 impl Programs for Processes {
@@ -17,6 +19,10 @@ impl Programs for Processes {
 
     fn settings(&mut self, input: &[u8]) -> Vec<u8> {
         run(&self.settings, input)
+    }
+
+    fn values(&mut self, input: &[u8]) -> Vec<u8> {
+        run(&self.values, input)
     }
 }
 
@@ -47,4 +53,11 @@ fn feed(to: &mut impl Write, input: &[u8]) -> std::io::Result<()> {
         std::thread::yield_now();
     }
     Ok(())
+}
+
+/// Makes a program of a function: standard input, as far as a program reads it, to standard output.
+pub fn be(program: fn(&[u8]) -> String) -> std::io::Result<()> {
+    let mut input = vec![];
+    std::io::stdin().take(INPUT as u64).read_to_end(&mut input)?;
+    std::io::stdout().write_all(program(&input).as_bytes())
 }

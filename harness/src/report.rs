@@ -14,14 +14,14 @@ struct Line {
 /// One line a kind of comparison.
 #[derive(Default)]
 pub struct Report {
-    lines: BTreeMap<&'static str, Line>,
+    lines: BTreeMap<String, Line>,
     pub differences: Vec<String>,
 }
 
 impl Report {
     /// Counts one comparison and the refusal that it met (0 for none); keeps what differed.
-    pub fn count(&mut self, kind: &'static str, refusal: u32, difference: Option<String>) {
-        let line = self.lines.entry(kind).or_default();
+    pub fn count(&mut self, kind: &str, refusal: u32, difference: Option<String>) {
+        let line = self.lines.entry(kind.to_string()).or_default();
         line.cases += 1;
         if refusal != 0 {
             *line.refusals.entry(refusal).or_default() += 1;
@@ -30,7 +30,7 @@ impl Report {
     }
 
     /// Counts one comparison that has no refusals.
-    pub fn hold(&mut self, kind: &'static str, holds: bool, otherwise: impl FnOnce() -> String) {
+    pub fn hold(&mut self, kind: &str, holds: bool, otherwise: impl FnOnce() -> String) {
         self.count(kind, 0, (!holds).then(otherwise));
     }
 

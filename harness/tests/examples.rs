@@ -82,6 +82,9 @@ fn a_natural_above_two() {
     let table = table(&["0202000000000001", "0400000000020001", "3000000000010000"]);
     let counts = accept(&table).expect("the table passes").counts;
     assert_eq!((counts.variables, counts.clauses, counts.slots), (9, 26, 100));
+    let input = b"0202000000000001\n0400000000020001\n3000000000010000\n\ns SATISFIABLE\nv 1 2 3 4 5 -6 7 -8 9 0\n";
+    assert_eq!(programs::settings(input), "0 3 1\n");
+    assert_eq!(programs::values(input), "0 3 1\n1 2 1\n2 1 1\n");
     let truths: Vec<i64> = (0..4).map(|n| evaluate(&table, &[n], 3).expect("n fits")[2]).collect();
     assert_eq!(truths, [0, 0, 0, 1]);
 }

@@ -1,4 +1,4 @@
-//! Both programs, on random and damaged texts.
+//! The programs, on random and damaged texts.
 
 use super::any_table;
 use crate::generate::{models, tables, texts};
@@ -9,10 +9,14 @@ use crate::plain::programs::SLOTS;
 use crate::random::Random;
 use crate::report::Report;
 
+/// Compares one program once.
+pub type Comparison = fn(&mut Random, &mut dyn Programs, &mut Report);
+
 /// Compares each program once.
 pub fn round(random: &mut Random, programs: &mut dyn Programs, report: &mut Report) {
     clauses(random, programs, report);
     settings(random, programs, report);
+    values(random, programs, report);
 }
 
 pub fn clauses(random: &mut Random, programs: &mut dyn Programs, report: &mut Report) {
@@ -23,6 +27,19 @@ pub fn clauses(random: &mut Random, programs: &mut dyn Programs, report: &mut Re
 }
 
 pub fn settings(random: &mut Random, programs: &mut dyn Programs, report: &mut Report) {
+    let input = claimed(random);
+    let (right, found) = (Plain.settings(&input), programs.settings(&input));
+    compare("program settings", &input, right, found, report);
+}
+
+pub fn values(random: &mut Random, programs: &mut dyn Programs, report: &mut Report) {
+    let input = claimed(random);
+    let (right, found) = (Plain.values(&input), programs.values(&input));
+    compare("program values", &input, right, found, report);
+}
+
+/// A table's lines, an empty line and a solver's text, right or damaged.
+fn claimed(random: &mut Random) -> Vec<u8> {
     let table = table(random);
     let model = match accept(&table) {
         Ok(sheet) if random.percent(80) => models::model(random, &table, &sheet),
@@ -32,13 +49,11 @@ pub fn settings(random: &mut Random, programs: &mut dyn Programs, report: &mut R
         }
         Err(_) => vec![1; random.below(12)],
     };
-    let input = if random.percent(40) {
+    if random.percent(40) {
         format!("{}\n{}", print::lines(&table), print::model(&model)).into()
     } else {
         texts::settings_input(random, &table, &model)
-    };
-    let (right, found) = (Plain.settings(&input), programs.settings(&input));
-    compare("program settings", &input, right, found, report);
+    }
 }
 
 fn table(random: &mut Random) -> Vec<u8> {

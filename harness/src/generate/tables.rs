@@ -1,5 +1,6 @@
 //! Random tables that pass.
 
+use crate::clauses;
 use crate::plain::acceptance::{judge, BOOLEAN, NUMBER};
 use crate::random::Random;
 use crate::record::Record;
@@ -15,6 +16,8 @@ pub struct Taste {
     pub denominators: &'static [u16],
     /// Slots of all rows together, at most.
     pub slots: u32,
+    /// Variables of all rows together and variable 1, at most.
+    pub variables: u32,
 }
 
 /// Denominators that are alike or close.
@@ -37,6 +40,7 @@ pub fn taste(random: &mut Random) -> Taste {
         free: 100_000,
         denominators: random.pick(&[&[1], FEW, FEW, MANY]),
         slots: random.pick(&[300, 2_000, 10_000, 16_300, 40_000]),
+        variables: 100_000,
     }
 }
 
@@ -44,7 +48,15 @@ pub fn taste(random: &mut Random) -> Taste {
 pub fn small(random: &mut Random, free: u32) -> Taste {
     let rows = random.from(2, 14) as usize;
     let bits = random.pick(&[1, 2, 3, 4]);
-    Taste { rows, bits, free, denominators: random.pick(&[&[1], FEW]), slots: 6_000 }
+    Taste { rows, bits, free, denominators: random.pick(&[&[1], FEW]), slots: 6_000, variables: 10_000 }
+}
+
+/// A taste for tables of which every assignment can be tried. An expansion has too many variables for it, so all denominators are alike.
+pub fn tiny(random: &mut Random) -> Taste {
+    let rows = random.from(2, 9) as usize;
+    let bits = random.pick(&[1, 1, 2]);
+    let denominators = random.pick(&[&[1], &[1], &[3]]);
+    Taste { rows, bits, free: 8, denominators, slots: 6_000, variables: clauses::FEW as u32 }
 }
 
 pub fn row(kind: u8, p: u8, x: u16, y: u16, z: u16) -> [u8; 8] {
@@ -76,6 +88,7 @@ struct Draft {
     records: Vec<Record>,
     slots: u32,
     free: u32,
+    variables: u32,
 }
 
 impl Draft {
@@ -86,14 +99,15 @@ impl Draft {
         };
         let slots = self.slots + plan.gates.slots();
         let free = self.free + plan.gates.free;
-        if slots > taste.slots || free > taste.free {
+        let variables = self.variables + plan.gates.variables();
+        if slots > taste.slots || free > taste.free || variables > taste.variables {
             return false;
         }
         let (first_slot, slot_count) = (self.slots, plan.gates.slots());
         let (sort, width, denominator) = (plan.sort, plan.width, plan.denominator);
         self.records.push(Record { sort, width, denominator, first_slot, slot_count });
         self.table.extend(row);
-        (self.slots, self.free) = (slots, free);
+        (self.slots, self.free, self.variables) = (slots, free, variables);
         true
     }
 
@@ -109,7 +123,7 @@ impl Draft {
 
 /// A random table that passes.
 pub fn table(random: &mut Random, taste: &Taste) -> Vec<u8> {
-    let mut draft = Draft { table: vec![], records: vec![], slots: 4, free: 0 };
+    let mut draft = Draft { table: vec![], records: vec![], slots: 4, free: 0, variables: 1 };
     for _ in 1..taste.rows {
         let passes = (0..10).any(|_| {
             let row = any_row(random, taste, &draft);
@@ -206,4 +220,25 @@ fn number(random: &mut Random, draft: &Draft) -> [u8; 8] {
         return row(0x23, 0, x, y, z);
     }
     pair(random, draft, &[0x20, 0x21, 0x22], NUMBER)
+}
+
+#[cfg(test)]
+mod tests {
+    use super::{table, tiny};
+    use crate::plain::acceptance::accept;
+    use crate::random::Random;
+    use std::collections::BTreeMap;
+
+    #[test]
+    fn tiny_tables_have_rows_of_every_kind() {
+        let mut random = Random::new(1);
+        let mut found: BTreeMap<u8, u32> = BTreeMap::new();
+        for _ in 0..400 {
+            let taste = tiny(&mut random);
+            let table = table(&mut random, &taste);
+            assert!(accept(&table).expect("it passes").counts.variables <= taste.variables);
+            table.chunks(8).for_each(|row| *found.entry(row[0]).or_default() += 1);
+        }
+        assert!(found.len() == 16 && found.values().all(|&rows| rows >= 20), "{found:?}");
+    }
 }

@@ -81,7 +81,7 @@ pub fn solver_text(random: &mut Random, model: &[u8]) -> Vec<u8> {
     }
 }
 
-/// The settings program's input: lines, an empty line, a solver's text.
+/// The input of the settings program and the values program: lines, an empty line, a solver's text.
 pub fn settings_input(random: &mut Random, table: &[u8], model: &[u8]) -> Vec<u8> {
     let mut input = if random.percent(75) { print::lines(table).into_bytes() } else { lines(random, table) };
     if random.percent(95) {

@@ -16,8 +16,16 @@ pub fn dimacs(counts: Counts, slots: &[i32]) -> String {
 
 /// Row, numerator and denominator of each unknown.
 pub fn settings(sheet: &Sheet, values: &[i64]) -> String {
-    let line = |(r, value): (usize, &i64)| format!("{r} {value} {}\n", sheet.records[r].denominator);
-    sheet.unknowns().zip(values).map(line).collect()
+    worth(sheet, sheet.unknowns().zip(values))
+}
+
+/// Row, numerator and denominator of every row.
+pub fn values(sheet: &Sheet, numerators: &[i64]) -> String {
+    worth(sheet, (0..).zip(numerators))
+}
+
+fn worth<'a>(sheet: &Sheet, rows: impl Iterator<Item = (usize, &'a i64)>) -> String {
+    rows.map(|(r, value)| format!("{r} {value} {}\n", sheet.records[r].denominator)).collect()
 }
 
 pub fn refused(refusal: Refusal) -> String {

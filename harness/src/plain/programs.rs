@@ -1,15 +1,16 @@
-//! The two programs, as functions from their input to their output.
+//! The three programs, as functions from their input to their output.
 
 use super::acceptance::{accept, Sheet};
 use super::calls::{decode, write, Room};
 use super::lines::{read_lines, read_lines_until_empty, ROOM};
 use super::print;
 use super::solver_text::read_claim;
+use super::values::numerators;
 use crate::record::Refusal;
 
-/// The slots that both programs lend.
+/// The slots that each program lends.
 pub const SLOTS: usize = 16_384;
-/// The bytes that both programs read at most.
+/// The bytes that each program reads at most.
 pub const INPUT: usize = 65_536;
 
 pub fn clauses(input: &[u8]) -> String {
@@ -17,7 +18,12 @@ pub fn clauses(input: &[u8]) -> String {
 }
 
 pub fn settings(input: &[u8]) -> String {
-    settings_or_refusal(read_up_to(input)).unwrap_or_else(print::refused)
+    claimed_or_refusal(read_up_to(input), print::settings).unwrap_or_else(print::refused)
+}
+
+pub fn values(input: &[u8]) -> String {
+    let print_values = |sheet: &Sheet, settings: &[i64]| print::values(sheet, &numerators(sheet, settings));
+    claimed_or_refusal(read_up_to(input), print_values).unwrap_or_else(print::refused)
 }
 
 fn read_up_to(input: &[u8]) -> &[u8] {
@@ -35,7 +41,8 @@ fn clauses_or_refusal(input: &[u8]) -> Result<String, Refusal> {
     Ok(print::dimacs(sheet.counts, &written.slots))
 }
 
-fn settings_or_refusal(input: &[u8]) -> Result<String, Refusal> {
+/// What is printed of the settings that a solver's text claims.
+fn claimed_or_refusal(input: &[u8], print: impl Fn(&Sheet, &[i64]) -> String) -> Result<String, Refusal> {
     let read = read_lines_until_empty(input, ROOM)?;
     let sheet = accept(&read.table)?;
     write(&read.table, room(&sheet))?;
@@ -44,6 +51,6 @@ fn settings_or_refusal(input: &[u8]) -> Result<String, Refusal> {
     let Some(model) = read_claim(rest, variables, variables as usize)? else {
         return Ok("none claimed\n".to_string());
     };
-    let values = decode(&read.table, room(&sheet), &model, sheet.rows.len())?.values?;
-    Ok(print::settings(&sheet, &values))
+    let settings = decode(&read.table, room(&sheet), &model, sheet.rows.len())?.values?;
+    Ok(print(&sheet, &settings))
 }
