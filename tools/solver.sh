@@ -49,7 +49,11 @@ run_solver() { # OUTPUT BYTES COMMAND...
     head -c "$bytes" <"$work/out" >"$output" 2>/dev/null &
     reader=$!
     tail -c 4096 <"$work/err" >"$work/complaint" 2>/dev/null &
-    timeout -k 2 "$limit" "$@" <"$work/clauses.cnf" >"$work/out" 2>"$work/err" &
+    (
+        # where the answer is a file that the solver writes itself
+        [ "$output" = "$work/answer" ] || ulimit -S -f "$((bytes / 1024 + 1))"
+        exec timeout -k 2 "$limit" "$@"
+    ) <"$work/clauses.cnf" >"$work/out" 2>"$work/err" &
     running=$!
     { wait "$running"; } 2>/dev/null
     status=$?

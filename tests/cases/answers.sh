@@ -40,6 +40,25 @@ contradictions() {
     answer "UNSAT with values" 4 'and line 2 is for values' 'echo UNSAT; echo 1 2 0; exit 20'
 }
 
+# minisat itself writes its answer to the file that it is told, and here is one of our own.
+by_minisat() { # NAME STATUS PATTERN LINES
+    command_of own/minisat "$4"
+    expect "minisat, $1" "$2" "$work/want" "$3" env SOLVER=minisat PATH="$work/own:$PATH" ./solve examples/above-two.sheet
+}
+
+# shellcheck disable=SC2016
+answers_of_minisat() {
+    want '0 3 1'
+    by_minisat "a model" 0 'true of them' 'echo SATISFIABLE; printf "SAT\n1 2 3 4 5 -6 7 -8 9 0\n" >"$3"; exit 10'
+    : >"$work/want"
+    by_minisat "UNSAT with status 10" 4 'contradicts itself' 'echo UNSAT >"$3"; exit 10'
+    by_minisat "SAT with status 20" 4 'contradicts itself' 'printf "SAT\n1 2 3 4 5 -6 7 -8 9 0\n" >"$3"; exit 20'
+    by_minisat "UNSAT with values" 4 'and line 2 is for values' 'printf "UNSAT\n1 2 0\n" >"$3"; exit 20'
+    by_minisat "no answer" 4 'it is empty' 'exit 10'
+    by_minisat "an answer without end" 4 'wrote more than 16,777,216 bytes' 'yes c >"$3"'
+    lines_said "minisat, an answer without end" 2
+}
+
 unreadable_answers() {
     : >"$work/want"
     answer "nonsense" 4 'its line 2 is "good day"' 'echo s SATISFIABLE; echo good day'
@@ -142,6 +161,7 @@ bare_path() {
 answer_cases() {
     odd_answers
     contradictions
+    answers_of_minisat
     unreadable_answers
     failing_solvers
     ended_early
