@@ -32,11 +32,10 @@ outdated() {
     return 1
 }
 
-# Where there is no rt, the programs that are here serve, unless they are known to be of other sources.
-do_without_rt() {
-    local rt="the Rattle toolchain's command 'rt', which builds them, is not on the PATH"
-    built || stop 3 "the programs are not built yet, and $rt"
-    ! outdated || stop 3 "the sources have changed since the programs were built, and $rt"
+# Where nothing can be built, the programs that are here serve, unless they are known to be of other sources.
+do_without_rt() { # REASON
+    built || stop 3 "the programs are not built yet, and $1"
+    ! outdated || stop 3 "the sources have changed since the programs were built, and $1"
 }
 
 why_build() {
@@ -53,9 +52,15 @@ why_build() {
 build() {
     local log=$root/target/solve.log
     ! up_to_date || return 0
-    command -v rt >/dev/null || { do_without_rt; return; }
+    if ! command -v rt >/dev/null; then
+        do_without_rt "the Rattle toolchain's command 'rt', which builds them, is not on the PATH"
+        return
+    fi
+    if ! mkdir -p "$root/target" 2>/dev/null || [ ! -w "$root/target" ]; then
+        do_without_rt "the folder $root/target can't be written"
+        return
+    fi
     say "$(why_build)"
-    mkdir -p "$root/target" || stop 3 "the folder $root/target can't be written"
     # the last cat: if nobody reads what rt says, that must not end rt
     (cd "$root" && rt check "${programs[@]}") 2>&1 | tee "$log" |
         { grep --line-buffered '^rt: ' | grep --line-buffered -v 'unchanged since' >&2; cat >/dev/null; }
