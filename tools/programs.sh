@@ -22,29 +22,36 @@ fingerprint() {
 # Whether the programs are here, and are what rt last made of these sources.
 up_to_date() { built && [ "$(cat "$root/target/solve.built" 2>/dev/null)" = "$(fingerprint)" ]; }
 
-# Whether the programs are known to be of other sources: by what was noted when they were built, else by the files' times.
-outdated() {
+# Says how it is known that programs which are not up to date are of other sources: by what was noted when they were built, else by the
+# files' times. Says nothing if it is not known.
+changed() {
     local name
-    [ ! -e "$root/target/solve.built" ] || return 0
+    if [ -e "$root/target/solve.built" ]; then
+        echo "the sources or the programs have changed since these were built"
+        return
+    fi
     for name in "${programs[@]}"; do
-        [ -z "$(find "$root/crates" "$root/crates.txt" -newer "$root/target/bin/$name" -print -quit)" ] || return 0
+        [ -z "$(find "$root/crates" "$root/crates.txt" -newer "$root/target/bin/$name" -print -quit)" ] || {
+            echo "the sources are younger than the programs"
+            return
+        }
     done
-    return 1
 }
 
 # Where nothing can be built, the programs that are here serve, unless they are known to be of other sources.
 do_without_rt() { # REASON
-    built || stop 3 "the programs are not built yet, and $1"
-    ! outdated || stop 3 "the sources have changed since the programs were built, and $1"
+    local why="the programs are not built yet"
+    ! built || why=$(changed)
+    [ -z "$why" ] || stop 3 "$why, and $1"
 }
 
 why_build() {
-    if ! built; then
-        echo "first run: proving and building the programs (rt check ${programs[*]}). This takes some minutes, once."
-    elif outdated; then
-        echo "the sources have changed since the programs were built: proving and building what changed (rt check ${programs[*]})"
+    local why
+    if built; then
+        why=$(changed)
+        echo "${why:-nothing tells whether the programs are of these sources}: proving and building what changed (rt check ${programs[*]})"
     else
-        echo "making sure that the programs are those of the sources (rt check ${programs[*]})"
+        echo "first run: proving and building the programs (rt check ${programs[*]}). This takes some minutes, once."
     fi
 }
 

@@ -128,10 +128,10 @@ soon() { # COMMAND...
 # shellcheck disable=SC2016
 missing_solvers() {
     local path=$work/packages:$work/bare
-    mkdir -p "$work/bare"
+    bare_path
     command_of packages/id 'echo 0'
     command_of packages/apt-get 'echo "$*" >>"$0.asked"; exit 100'
-    bare_path
+    ! type -P rt >/dev/null || ln -s "$(type -P rt)" "$work/packages/rt" # with it ./solve finds the emulator
     expect "no such file" 4 /dev/null 'there is no solver /no/solver' env SOLVER=/no/solver PATH="$path" ./solve examples/both.sheet
     expect "no such solver" 4 /dev/null 'there is no solver hello$' env SOLVER=hello PATH="$path" ./solve examples/both.sheet
     expect "a package of that name" 4 /dev/null 'there is no solver glucose$' env SOLVER='glucose {}' PATH="$path" ./solve examples/both.sheet
@@ -146,16 +146,6 @@ missing_solvers() {
     want '0 3 1'
     expect "installed" 0 "$work/want" "trying to install Debian's package cryptominisat\$" \
         env SOLVER='cryptominisat5 --verb 0' PATH="$path" ./solve examples/above-two.sheet
-}
-
-# A folder of every command but the solvers and rt, for a path on which these are missing.
-bare_path() {
-    local folder
-    for folder in /bin /usr/bin; do
-        find "$folder/" -mindepth 1 -maxdepth 1 -exec ln -sf -t "$work/bare" {} +
-    done
-    rm -f "$work/bare"/{rt,apt-get,id,hello,glucose,say,cadical,minisat,picosat,cryptominisat5}
-    ! command -v rt >/dev/null || ln -s "$(command -v rt)" "$work/bare/rt"
 }
 
 answer_cases() {
