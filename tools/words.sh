@@ -163,10 +163,10 @@ refuse_row() { # NUMBER ROW
     local digits line note reason
     IFS=$'\t' read -r digits line note < <(sed -n "$(($2 + 1))p" "$work/rows")
     say "row $2 (line $line of the sheet): $(in_words "$1" "$2")"
+    say "    $(shown "$digits")${note:+  # $note}"
     while read -r reason; do
         say "    $reason"
     done < <(reasons "$1" "$digits" "$2")
-    say "    $(shown "$digits")${note:+  # $note}"
 }
 
 # Says which rows cost most, as far as the program that knows it runs.

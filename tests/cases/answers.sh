@@ -113,7 +113,8 @@ ended_early() {
     fail "ended early: another status than 143, or the solver runs on"
 }
 
-ended() { ! kill -0 "$1" 2>/dev/null; } # PROCESS
+# Whether a process has ended, be it that nobody has asked for its status yet.
+ended() { ! grep -qs '^State:[[:space:]]*[^XZ[:space:]]' "/proc/$1/status"; } # PROCESS
 
 # Whether a command succeeds within ten seconds.
 soon() { # COMMAND...

@@ -210,17 +210,39 @@ refusals_of_digits() {
     expect "no rows" 1 "$work/want" 'the sheet has no rows' ./solve "$work/sheet"
 }
 
-# Refusal 13 with the rows that cost most: two of denominator 3 among those of 2, each brought to 6 by a product.
+# A row of each kind that is accepted behind p and n, but for its fields without a use.
+sound_rows=(0000000100000000 0100000000000000 0202000000000001 0302000000000001 0400000000010001 1000000000000000 1100000000000000
+    1200000000000000 1300000000000000 1400000000000000 2000000100010000 2100000100010000 2200000100010000 2300000000010001
+    3000000100010000 3100000100010000)
+
+# Every field of every kind: where the programs refuse it for having no use, the words name it, and there are 34 such.
+fields_without_a_use() {
+    local row place refused=0
+    for row in "${sound_rows[@]}"; do
+        for place in p:3 x:7 y:11 z:15; do
+            sheet 0100000000000000 0202000000000001 "${row:0:${place#*:}}2${row:$((${place#*:} + 1))}"
+            ./solve "$work/sheet" >"$work/out" 2>"$work/err"
+            grep -qx 'refused 4 2' "$work/out" || continue
+            refused=$((refused + 1))
+            also "${place%:*} of $row" "^solve:     ${place%:*} is 2, and kind ${row:0:2} (.*) has no use for it$"
+        done
+    done
+    cases=$((cases + 1))
+    [ "$refused" -eq 34 ] || fail "fields without a use: $refused, not 34"
+}
+
+# Refusal 13 with the rows that cost most: three that bring halves and thirds to sixths, each by two products.
 rows_that_cost() {
     sheet '021f000000000002  # a' '021f000000000003  # b' '2000000000010000  # their sum' '3100000000010000  # equal' \
         '3000000000010000  # greater' '1100000300040000  # both'
     ./solve "$work/sheet" >"$work/want" 2>/dev/null
     expect "the rows that cost most" 1 "$work/want" '^solve: the clauses need [0-9,]* slots, and the programs have 16,384$' ./solve "$work/sheet"
     grep -Ex 'refused 13 [0-9]+' "$work/want" >/dev/null || fail "the rows that cost most: not refused 13"
-    also "the first" '^solve:     row 2  *[0-9,]* slots  their sum$'
-    also "the second" '^solve:     row 3  *[0-9,]* slots  equal$'
+    also "the first" '^solve:     row 2          81,256 slots  their sum$'
     also "what helps" 'what usually helps: one denominator throughout'
     lines_said "three rows, no more" 7
+    cases=$((cases + 1))
+    [ "$(grep -o 'row [0-9]' "$work/err" | tr '\n' ' ')" = "row 2 row 4 row 3 " ] || fail "the rows that cost most: other rows, or another order"
     expect "the dearest of the examples" 1 examples/long.expected '^solve:     row 2  *74,928 slots  2: their product$' ./solve examples/long.sheet
 }
 
@@ -236,5 +258,6 @@ sheet_cases() {
     exact_values
     refusals_of_a_row
     refusals_of_digits
+    fields_without_a_use
     rows_that_cost
 }

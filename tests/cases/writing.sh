@@ -76,11 +76,21 @@ cut_texts() {
     lines_said "a program that dies" 2
 }
 
+# What can't be said of a refusal does not change it.
+unsaid_costs() {
+    command_of good/clauses 'cat >/dev/null; echo refused 13 20000'
+    want 'refused 13 20000'
+    expect "costs that can't be said" 1 "$work/want" 'the cost program does not run' env CLAUSES="$work/good/clauses" SETTINGS=false VALUES=false \
+        COSTS=false ./solve examples/above-two.sheet
+    also "the refusal all the same" 'need 20,000 slots'
+}
+
 # A temporary folder in which files have room for so many KiB, the programs' own among them: no part of a text may be taken for all of it.
 little_room() {
     local room
     for room in 1 2 4 8 16; do
-        expect "room for $room KiB" 3 /dev/null '^solve: ' bash -c "trap '' XFSZ; ulimit -f $room; ./solve examples/mirror-gate.sheet | cat; exit \${PIPESTATUS[0]}"
+        expect "room for $room KiB" 3 /dev/null '^solve: ' \
+            bash -c "trap '' XFSZ; ulimit -f $room; ./solve examples/mirror-gate.sheet | cat; exit \${PIPESTATUS[0]}"
     done
 }
 
@@ -88,5 +98,6 @@ writing_cases() {
     full_output
     full_error
     cut_texts
+    unsaid_costs
     little_room
 }
