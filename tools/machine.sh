@@ -8,8 +8,8 @@ need() { # COMMAND PACKAGE...
     local command=$1
     shift
     if [ "$(id -u)" = 0 ] && command -v apt-get >/dev/null; then
-        apt-get install -y --no-install-recommends "$@" >"$logs/apt.log" 2>&1 ||
-            { apt-get update && apt-get install -y --no-install-recommends "$@"; } >"$logs/apt.log" 2>&1
+        local install=(env DEBIAN_FRONTEND=noninteractive apt-get install -y --no-install-recommends "$@")
+        { "${install[@]}" || { apt-get update && "${install[@]}"; }; } >"$logs/apt.log" 2>&1 </dev/null
     fi
     command -v "$command" >/dev/null || { echo "$me: $command is missing (Debian package $1)"; return 1; }
 }
