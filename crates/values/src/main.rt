@@ -2,24 +2,33 @@
 // settings that it tells to standard output, or that none is claimed, or the line of a refusal. All between reading and writing is
 // `values_text`.
 ghost use mathlib.Core.Path.{_≡_};
+ghost use lib.ListN.{length};
 ghost use Rattle.sheet.specs.Programs.{valuesProgram};
+ghost use Rattle.standard_input.specs.Reads.{bytes, IsWhole};
+use standard_input::Progress;
 
-// Writes the answer to what was read: nothing but the paper's can be handed to it.
-fn write_answer(read: &[u8], answer: &[u8])
-    requires { ⌜ now answer ≡ valuesProgram (now read) ⌝ }
+// Writes the answer to what was read: nothing but the paper's can be handed to it, and only of a whole input.
+fn write_answer(read: Progress, input: &[u8], answer: &[u8])
+    requires { ⌜ IsWhole read (now input) ⌝ ∗ ⌜ now answer ≡ valuesProgram (now input) ⌝ }
 {
     io::write_all(1, answer);
 }
 
-fn answer(read: &[u8]) {
-    let mut out = [0u8; 16448];
-    let size = settings_text::values_text(read, &mut out);
-    write_answer(read, &out[..size]);
+// Where a read failed, nothing at all is written: a part of a sheet is no sheet.
+fn answer(read: Progress, input: &[u8])
+    requires { ⌜ bytes read ≡ length (now input) ⌝ }
+{
+    if let Progress::Whole(_) = read {
+        let mut out = [0u8; 16448];
+        let size = settings_text::values_text(input, &mut out);
+        write_answer(read, input, &out[..size]);
+    }
 }
 
 // At most 65,536 bytes are read, to the end of the input, however small the pieces are that it comes in.
 fn main() {
-    let mut input = io::large_buffer();
-    let n = io::read_full(0, &mut input);
-    answer(&input[..n]);
+    let mut buf = io::large_buffer();
+    let read = standard_input::read_whole(0, &mut buf);
+    let n = standard_input::size(read, &buf);
+    answer(read, &buf[..n]);
 }

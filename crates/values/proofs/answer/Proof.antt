@@ -1,15 +1,19 @@
--- `values::answer` is safe and ends, and hands on the paper's answer. Assumes nothing.
+-- `values::answer` is safe and ends, and hands on the paper's answer, of a whole input only. Assumes nothing.
 use mathlib.Core.List.{List}
 use Prim.Native.Nat.{ℕ}
 use borrow.Author.Needs.{needs}
 use lib.ListN.{replicate}
 use Rattle.program.proofs.Printed.{printed-part, printed-within, printed-long}
+use Rattle.standard_input.proofs.Laws.{whole-input}
 use Rattle.values.proofs.answer.Statement.{statement}
 use Rattle.values.proofs.answer.Tie as tie
 
 -- the output's buffer as it is lent
 abbrev blank : List ℕ
 blank = replicate 16448 0
+
+enum-told : tie.Need-enum-told
+enum-told c = search needs
 
 slice-aggregate-values-text : tie.Need-slice-aggregate-values-text
 slice-aggregate-values-text c = search needs
@@ -30,18 +34,24 @@ slice-aggregate-write-answer c =
 write-answer-requires : tie.Need-write-answer-requires
 write-answer-requires c κs =
     let (answer, out) = c .before .before .values-text .ensures in
-    printed-part _ blank answer out
+    let s = c .before .before .before .before .before .before .before in
+    (whole-input (s .args .input .now) (s .pre) (c .before .before .before .before .enum-told .given .1), printed-part _ blank answer out)
 
 returns : tie.Need-returns
 returns c = search needs
+
+returns-2 : tie.Need-returns-2
+returns-2 c = search needs
 
 pub answer-spec : {M : Type 1} → statement M
 answer-spec =
     tie.close
     (tie.spec
+    enum-told
     slice-aggregate-values-text
     values-text-requires
     array-share-prefix-out
     slice-aggregate-write-answer
     write-answer-requires
-    returns)
+    returns
+    returns-2)
