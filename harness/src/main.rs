@@ -96,19 +96,19 @@ fn compare_programs(seed: u64, rounds: u64, report: &mut Report) {
 }
 
 fn try_demand(seed: u64, rounds: u64, solvers: &[Solver], report: &mut Report) {
-    let mut of: Vec<(u64, Box<dyn Library>)> = vec![(rounds, Box::new(Plain))];
+    let mut of: Vec<Box<dyn Library>> = vec![Box::new(Plain)];
     match library() {
-        // a call through the pipe takes longer
-        Some(library) => of.push((rounds / 2, Box::new(library))),
+        Some(library) => of.push(Box::new(library)),
         None => {
             println!("skipped: demand 3 on the library (SERVER is not set); it is tried on the plain implementation")
         }
     }
-    for (rounds, mut library) in of {
+    for mut library in of {
         let mut random = Random::new(seed ^ 2 << 32);
-        for round in 0..rounds as usize {
-            // each solver in its turn
-            let solver = solvers.get(round % solvers.len().max(1));
+        // solvers take long: one in every second round, each in its turn
+        let mut turns = solvers.iter().cycle();
+        for round in 0..rounds {
+            let solver = if round % 2 == 0 { turns.next() } else { None };
             (0..4).for_each(|_| demand::tiny_table(&mut random, &mut *library, report));
             demand::small_table(&mut random, &mut *library, solver, report);
             demand::any_table(&mut random, &mut *library, solver, report);

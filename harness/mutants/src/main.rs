@@ -22,7 +22,7 @@ mod made {
 const ROUNDS: usize = 4000;
 /// Rounds in which a wrong meaning must show; where none is expected, fewer are tried.
 const MEANT: usize = 400;
-const GLANCE: usize = 10;
+const GLANCE: usize = 4;
 
 /// Variants that mean something else: demand 3 must show these without the plain implementation beside them.
 const WRONG_IN_MEANING: &[&str] = &[
