@@ -6,14 +6,14 @@ use native.Mathlib.Omega.{arith}
 use lib.IntN.{ℤ, pos}
 use lib.ListN.{length, getD}
 use Rattle.sheet.specs.declared.Record.{Record}
-use Rattle.sheet.specs.Values.{Value, boolean, fraction, numerator, denominator}
+use Rattle.sheet.specs.Values.{Value, boolean, fraction, numerator}
 use Rattle.sheet.specs.Texts.{valueLine, rowLines, costLine}
 use Rattle.sheet.proofs.Widths.{Holds, AllHold}
 use Rattle.print.specs.Pieces.{pairLine}
 use Rattle.print.proofs.Pieces.{length-pair}
 use Rattle.row_lines.specs.Numbers.{overRecords}
 
--- no line has more than 64 bytes
+-- how long a line of costs is
 pub cost-short : (i : ℕ) (r : Record) → length (costLine i r) ≤ 42
 unfolding pairLine
 cost-short i r = length-pair [] i (r .slots)

@@ -26,6 +26,7 @@ module _ {table : List ℕ} {rows : ℕ} {records : List Record} {values : List 
   abbrev vs : List Value
   vs = rowValues (rowsOf rows table) values
 
+  -- as many values as rows, each over its record's denominator, whichever way the rows are named
   same-rows : {fs : List Fields} → e .table-is .sheet .rows ≡ fs → (length (rowValues fs values) ≡ rows) × AllHold (e .table-is .sheet .records) (rowValues fs values)
   unfolding rowValues
   same-rows f =
@@ -34,6 +35,7 @@ module _ {table : List ℕ} {rows : ℕ} {records : List Record} {values : List 
       let many = rows-many (sheet .rows) values ∙ sym (counts-are-made table sheet (e .table-is .is) .records) ∙ e .table-is .many in
       rw (← f) (many, table-fits (sheet .rows) [] [] tt theFirst (sheet .records) (is .total) (is .passed) values (within-all (sheet .rows) values (e .within)))
 
+  -- what evaluating leaves at the front of the results
   pub numerators-many : length (map numerator vs) ≡ rows
   numerators-many = length-map vs numerator ∙ same-rows (all-read (e .table-is)) .0
 
@@ -41,6 +43,7 @@ module _ {table : List ℕ} {rows : ℕ} {records : List Record} {values : List 
   unfolding front
   numerators-are results₀ f = rw f (take-at (map numerator vs) (drop (length (map numerator vs)) results₀) rows numerators-many)
 
+  -- the records' denominators are the values'
   pub lines-over : valueLines (overRecords records (map numerator vs)) ≡ valueLines vs
   lines-over =
       let all : records ≡ e .table-is .sheet .records ++ drop rows records = sym (take-append-drop rows records) ∙ ap (λ (rs : List Record). rs ++ drop rows records) (e .table-is .held) in
