@@ -110,51 +110,51 @@ enum { FORDRAMBLER_SORT_BOOLEAN = 0, FORDRAMBLER_SORT_NUMBER = 1 };
    Of several refusals the one with the smallest number is given, but rows are gone through one by one, and the readers of text look at 18 first. */
 
 /* Fills the records. Refusals 1 to 11. */
-uint32_t fordrambler_check(const uint8_t *table, size_t table_len, fordrambler_record *records, size_t records_len, uint32_t *place);
+uint32_t fordrambler_check(const uint8_t *table, size_t table_len, fordrambler_record *records, size_t records_len, size_t *place);
 
 /* How many variables, clauses and slots the table makes. Refusals 1 to 10. */
 uint32_t fordrambler_measure(const uint8_t *table, size_t table_len, uint32_t *variables, uint32_t *clauses, uint32_t *slots,
-                             uint32_t *place);
+                             size_t *place);
 
 /* Writes records, literal map and clauses. A clause is its literals and a 0, each in a slot of its own, as in a DIMACS file: 5 stands for variable
    5, -5 for its opposite. Variable 1 stands for truth: the first clause fixes it. The last clause is the constraint. In the map each row has its
    literals, lowest bit first and the sign last, then zeros. Refusals 1 to 13. */
 uint32_t fordrambler_write(const uint8_t *table, size_t table_len, fordrambler_record *records, size_t records_len, int32_t *map,
-                           size_t map_len, int32_t *slots, size_t slots_len, uint32_t *place);
+                           size_t map_len, int32_t *slots, size_t slots_len, size_t *place);
 
 /* The clauses of one row are the slots from *first, *count of them. The slots are not looked at. Refusals 1 to 10, 13, 22. */
 uint32_t fordrambler_row_clauses(const uint8_t *table, size_t table_len, const int32_t *slots, size_t slots_len, uint32_t row,
-                                 size_t *first, size_t *count, uint32_t *place);
+                                 size_t *first, size_t *count, size_t *place);
 
 /* Every row's exact value at chosen values of the unknowns: its numerator (the denominator stands in its record), or 0 or 1 for a Boolean.
    Refusals 1 to 10, 14, 15, 18. */
 uint32_t fordrambler_evaluate(const uint8_t *table, size_t table_len, const int64_t *values, size_t values_len, int64_t *results,
-                              size_t results_len, uint32_t *place);
+                              size_t results_len, size_t *place);
 
 /* The model that chosen values give. *truth: 1 if the constraint is true of the values, else 0. Refusals 1 to 10, 14, 15, 18. */
 uint32_t fordrambler_extend(const uint8_t *table, size_t table_len, const int64_t *values, size_t values_len, uint8_t *model,
-                            size_t model_len, uint8_t *truth, uint32_t *place);
+                            size_t model_len, uint8_t *truth, size_t *place);
 
 /* The values that a model gives, if it makes every clause true: the constraint then is true of them. Whoever made the model need not be trusted.
    Writes records, map and slots too. Refusals 1 to 13, 16 to 19. */
 uint32_t fordrambler_decode(const uint8_t *table, size_t table_len, fordrambler_record *records, size_t records_len, int32_t *map,
                             size_t map_len, int32_t *slots, size_t slots_len, const uint8_t *model, size_t model_len, int64_t *values,
-                            size_t values_len, uint32_t *place);
+                            size_t values_len, size_t *place);
 
 /* A text of lines, 16 hexadecimal digits in lower case and a line feed each, as a table's bytes. *table_read: the table's length in bytes, which may
    be 0. Refusals 18, 20, 2. */
 uint32_t fordrambler_read_lines(const uint8_t *text, size_t text_len, uint8_t *table, size_t table_len, size_t *table_read,
-                                uint32_t *place);
+                                size_t *place);
 
 /* The same to an empty line. *ended: 1 if an empty line ended the table, *rest then the offset behind it; else 0 and text_len. */
 uint32_t fordrambler_read_lines_until_empty(const uint8_t *text, size_t text_len, uint8_t *table, size_t table_len, size_t *table_read,
-                                            size_t *rest, uint8_t *ended, uint32_t *place);
+                                            size_t *rest, uint8_t *ended, size_t *place);
 
 /* A solver's text: "s SATISFIABLE" and one line "v " with every variable once, rising, negative for false, single spaces, and a final 0; or
    "s UNSATISFIABLE" alone. Each line ends in a line feed, and nothing follows. *claim: 1 a model, which is written; 0 none, and nothing is
    written. Refusals 18, 21. */
 uint32_t fordrambler_read_claim(const uint8_t *text, size_t text_len, uint32_t variables, uint8_t *model, size_t model_len,
-                                uint8_t *claim, uint32_t *place);
+                                uint8_t *claim, size_t *place);
 
 #ifdef __cplusplus
 }

@@ -23,14 +23,13 @@ enum status { SETTINGS = 0, REFUSED = 1, UNUSABLE = 2, SOLVER_FAILED = 4, UNWRIT
 
 /* The table and what is lent to the calls. What depends on the clauses is allocated once they are measured. */
 static uint8_t table[FORDRAMBLER_TABLE_BYTES];
-static size_t table_len, rows, unknowns;
+static size_t table_len, rows, unknowns, place;
 static fordrambler_record records[FORDRAMBLER_MOST_ROWS];
 static int32_t map[FORDRAMBLER_MOST_ROWS * FORDRAMBLER_MAP_PLACES];
 static uint32_t variables, clauses, slots_len;
 static int32_t *slots;
 static uint8_t *model;
 static int64_t values[FORDRAMBLER_MOST_ROWS], results[FORDRAMBLER_MOST_ROWS];
-static uint32_t place;
 
 /* The solver's two files, in a folder of their own. */
 static char folder[4000], clauses_path[4096], answer_path[4096];
@@ -55,8 +54,8 @@ static void stop(enum status status, const char *format, ...) {
 
 /* Ends at a refusal; its place is in `place`. 19 is the solver's fault; any other number here speaks of the sheet. */
 static void must_be_done(uint32_t number) {
-    if (number == FORDRAMBLER_REFUSED_CLAUSE) stop(SOLVER_FAILED, "refused %" PRIu32 " %" PRIu32 ": the solver's model is false", number, place);
-    if (number != FORDRAMBLER_DONE) stop(REFUSED, "refused %" PRIu32 " %" PRIu32 " (docs/SHEETS.md says what this means)", number, place);
+    if (number == FORDRAMBLER_REFUSED_CLAUSE) stop(SOLVER_FAILED, "refused %" PRIu32 " %zu: the solver's model is false", number, place);
+    if (number != FORDRAMBLER_DONE) stop(REFUSED, "refused %" PRIu32 " %zu (docs/SHEETS.md says what this means)", number, place);
 }
 
 static void *room(size_t count, size_t size) {

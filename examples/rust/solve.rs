@@ -42,7 +42,7 @@ mod library {
     #[derive(Clone, Copy)]
     pub struct Refusal {
         pub number: u32,
-        pub place: u32,
+        pub place: usize,
     }
 
     pub struct Counts {
@@ -65,7 +65,7 @@ mod library {
             table_len: usize,
             records: *mut Record,
             records_len: usize,
-            place: *mut u32,
+            place: *mut usize,
         ) -> u32;
         fn fordrambler_measure(
             table: *const u8,
@@ -73,7 +73,7 @@ mod library {
             variables: *mut u32,
             clauses: *mut u32,
             slots: *mut u32,
-            place: *mut u32,
+            place: *mut usize,
         ) -> u32;
         fn fordrambler_write(
             table: *const u8,
@@ -84,7 +84,7 @@ mod library {
             map_len: usize,
             slots: *mut i32,
             slots_len: usize,
-            place: *mut u32,
+            place: *mut usize,
         ) -> u32;
         fn fordrambler_evaluate(
             table: *const u8,
@@ -93,7 +93,7 @@ mod library {
             values_len: usize,
             results: *mut i64,
             results_len: usize,
-            place: *mut u32,
+            place: *mut usize,
         ) -> u32;
         fn fordrambler_decode(
             table: *const u8,
@@ -108,7 +108,7 @@ mod library {
             model_len: usize,
             values: *mut i64,
             values_len: usize,
-            place: *mut u32,
+            place: *mut usize,
         ) -> u32;
         fn fordrambler_read_lines(
             text: *const u8,
@@ -116,12 +116,12 @@ mod library {
             table: *mut u8,
             table_len: usize,
             table_read: *mut usize,
-            place: *mut u32,
+            place: *mut usize,
         ) -> u32;
     }
 
     /// Makes a call, which is lent a number for the place.
-    fn done(call: impl FnOnce(&mut u32) -> u32) -> Result<(), Refusal> {
+    fn done(call: impl FnOnce(&mut usize) -> u32) -> Result<(), Refusal> {
         let mut place = 0;
         match call(&mut place) {
             0 => Ok(()),

@@ -108,7 +108,7 @@ impl Bench {
     }
 
     fn measure(&mut self) {
-        let (table, [mut v, mut c, mut s, mut p]) = (self.table.clone(), [0; 4]);
+        let (table, [mut v, mut c, mut s], mut p) = (self.table.clone(), [0; 3], 0);
         let plain = time(|| lent::measure(&table, &mut v, &mut c, &mut s, &mut p));
         self.line(Request::Measure { table }, 12, plain);
     }
@@ -183,9 +183,9 @@ fn main() {
     let slots = bench.sheet.counts.slots;
     println!("a table of 20 products of 48 bits, {slots} slots; times of one call");
     if let Some(library) = &mut bench.library {
-        let mut counts = [0; 4];
-        let [v, c, s, p] = &mut counts;
-        assert_eq!(library.measure(&bench.table, v, c, s, p), 0, "the library accepts the table");
+        let ([mut v, mut c, mut s], mut p) = ([0; 3], 0);
+        let number = library.measure(&bench.table, &mut v, &mut c, &mut s, &mut p);
+        assert_eq!(number, 0, "the library accepts the table");
     }
     bench.check();
     bench.measure();

@@ -60,16 +60,16 @@ static const int fields_of[] = {3, 5, 5, 6, 4, 5, 7, 4, 6, 5};
 
 static uint32_t call(int which, field *f) {
     switch (which) {
-    case 0: return fordrambler_check(BYTES(0), RECORDS(1), U32(2));
-    case 1: return fordrambler_measure(BYTES(0), U32(1), U32(2), U32(3), U32(4));
-    case 2: return fordrambler_write(BYTES(0), RECORDS(1), INTS(2), INTS(3), U32(4));
-    case 3: return fordrambler_row_clauses(BYTES(0), INTS(1), *U32(2), SIZE(3), SIZE(4), U32(5));
-    case 4: return fordrambler_evaluate(BYTES(0), LONGS(1), LONGS(2), U32(3));
-    case 5: return fordrambler_extend(BYTES(0), LONGS(1), BYTES(2), BYTE(3), U32(4));
-    case 6: return fordrambler_decode(BYTES(0), RECORDS(1), INTS(2), INTS(3), BYTES(4), LONGS(5), U32(6));
-    case 7: return fordrambler_read_lines(BYTES(0), BYTES(1), SIZE(2), U32(3));
-    case 8: return fordrambler_read_lines_until_empty(BYTES(0), BYTES(1), SIZE(2), SIZE(3), BYTE(4), U32(5));
-    default: return fordrambler_read_claim(BYTES(0), *U32(1), BYTES(2), BYTE(3), U32(4));
+    case 0: return fordrambler_check(BYTES(0), RECORDS(1), SIZE(2));
+    case 1: return fordrambler_measure(BYTES(0), U32(1), U32(2), U32(3), SIZE(4));
+    case 2: return fordrambler_write(BYTES(0), RECORDS(1), INTS(2), INTS(3), SIZE(4));
+    case 3: return fordrambler_row_clauses(BYTES(0), INTS(1), *U32(2), SIZE(3), SIZE(4), SIZE(5));
+    case 4: return fordrambler_evaluate(BYTES(0), LONGS(1), LONGS(2), SIZE(3));
+    case 5: return fordrambler_extend(BYTES(0), LONGS(1), BYTES(2), BYTE(3), SIZE(4));
+    case 6: return fordrambler_decode(BYTES(0), RECORDS(1), INTS(2), INTS(3), BYTES(4), LONGS(5), SIZE(6));
+    case 7: return fordrambler_read_lines(BYTES(0), BYTES(1), SIZE(2), SIZE(3));
+    case 8: return fordrambler_read_lines_until_empty(BYTES(0), BYTES(1), SIZE(2), SIZE(3), BYTE(4), SIZE(5));
+    default: return fordrambler_read_claim(BYTES(0), *U32(1), BYTES(2), BYTE(3), SIZE(4));
     }
 }
 

@@ -23,7 +23,7 @@ impl Buffers {
     }
 }
 
-fn answer<T>(number: u32, place: u32, found: T) -> Result<T, Refusal> {
+fn answer<T>(number: u32, place: usize, found: T) -> Result<T, Refusal> {
     match number {
         0 => Ok(found),
         _ => Err(Refusal { number, place }),
@@ -31,7 +31,7 @@ fn answer<T>(number: u32, place: u32, found: T) -> Result<T, Refusal> {
 }
 
 pub fn measure(library: &mut dyn Library, table: &[u8]) -> Result<Measured, Refusal> {
-    let [mut variables, mut clauses, mut slots, mut place] = [0; 4];
+    let ([mut variables, mut clauses, mut slots], mut place) = ([0; 3], 0);
     let number = library.measure(table, &mut variables, &mut clauses, &mut slots, &mut place);
     let [variables, clauses, slots] = [variables, clauses, slots].map(|n| n as usize);
     answer(number, place, Measured { variables, clauses, slots })

@@ -123,7 +123,7 @@ fn decodes(library: &mut dyn Library, case: &Case, list: &[i64], model: &[u8], t
     let found = ask::decode(library, &case.table, model, list.len());
     let right = match truth {
         true => found == Ok(list.to_vec()),
-        false => found == Err(Refusal { number: 19, place: case.but_the_last.list.len() as u32 + 1 }),
+        false => found == Err(Refusal { number: 19, place: case.but_the_last.list.len() + 1 }),
     };
     report.hold("demand 3: decoding gives the values back", right, || case.tell(list));
 }

@@ -146,7 +146,7 @@ fn sets<T: Plainly>(number: &mut T) -> Field<'_> {
 }
 
 impl Library for Piped {
-    fn check(&mut self, table: &[u8], records: &mut [Record], place: &mut u32) -> u32 {
+    fn check(&mut self, table: &[u8], records: &mut [Record], place: &mut usize) -> u32 {
         self.call(0, vec![reads(table), lends(records), sets(place)])
     }
 
@@ -156,7 +156,7 @@ impl Library for Piped {
         variables: &mut u32,
         clauses: &mut u32,
         slots: &mut u32,
-        place: &mut u32,
+        place: &mut usize,
     ) -> u32 {
         self.call(1, vec![reads(table), sets(variables), sets(clauses), sets(slots), sets(place)])
     }
@@ -167,7 +167,7 @@ impl Library for Piped {
         records: &mut [Record],
         map: &mut [i32],
         slots: &mut [i32],
-        place: &mut u32,
+        place: &mut usize,
     ) -> u32 {
         self.call(2, vec![reads(table), lends(records), lends(map), lends(slots), sets(place)])
     }
@@ -179,16 +179,16 @@ impl Library for Piped {
         row: u32,
         first: &mut usize,
         count: &mut usize,
-        place: &mut u32,
+        place: &mut usize,
     ) -> u32 {
         self.call(3, vec![reads(table), reads(slots), reads(&[row]), sets(first), sets(count), sets(place)])
     }
 
-    fn evaluate(&mut self, table: &[u8], values: &[i64], results: &mut [i64], place: &mut u32) -> u32 {
+    fn evaluate(&mut self, table: &[u8], values: &[i64], results: &mut [i64], place: &mut usize) -> u32 {
         self.call(4, vec![reads(table), reads(values), lends(results), sets(place)])
     }
 
-    fn extend(&mut self, table: &[u8], values: &[i64], model: &mut [u8], truth: &mut u8, place: &mut u32) -> u32 {
+    fn extend(&mut self, table: &[u8], values: &[i64], model: &mut [u8], truth: &mut u8, place: &mut usize) -> u32 {
         self.call(5, vec![reads(table), reads(values), lends(model), sets(truth), sets(place)])
     }
 
@@ -200,14 +200,14 @@ impl Library for Piped {
         slots: &mut [i32],
         model: &[u8],
         values: &mut [i64],
-        place: &mut u32,
+        place: &mut usize,
     ) -> u32 {
         let fields =
             vec![reads(table), lends(records), lends(map), lends(slots), reads(model), lends(values), sets(place)];
         self.call(6, fields)
     }
 
-    fn read_lines(&mut self, text: &[u8], table: &mut [u8], table_read: &mut usize, place: &mut u32) -> u32 {
+    fn read_lines(&mut self, text: &[u8], table: &mut [u8], table_read: &mut usize, place: &mut usize) -> u32 {
         self.call(7, vec![reads(text), lends(table), sets(table_read), sets(place)])
     }
 
@@ -218,13 +218,13 @@ impl Library for Piped {
         table_read: &mut usize,
         rest: &mut usize,
         ended: &mut u8,
-        place: &mut u32,
+        place: &mut usize,
     ) -> u32 {
         let fields = vec![reads(text), lends(table), sets(table_read), sets(rest), sets(ended), sets(place)];
         self.call(8, fields)
     }
 
-    fn read_claim(&mut self, text: &[u8], variables: u32, model: &mut [u8], claim: &mut u8, place: &mut u32) -> u32 {
+    fn read_claim(&mut self, text: &[u8], variables: u32, model: &mut [u8], claim: &mut u8, place: &mut usize) -> u32 {
         self.call(9, vec![reads(text), reads(&[variables]), lends(model), sets(claim), sets(place)])
     }
 }

@@ -23,11 +23,10 @@ pub struct Buffers {
 #[derive(Clone, Copy, Debug, PartialEq, Eq)]
 pub struct Refusal {
     pub number: u32,
-    pub place: u32,
+    pub place: usize,
 }
 
 /// The refusal of this number at this place.
 pub fn refuse<T>(number: u32, place: usize) -> Result<T, Refusal> {
-    let place = u32::try_from(place).expect("a place is a 32-bit number");
     Err(Refusal { number, place })
 }

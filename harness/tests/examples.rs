@@ -31,7 +31,7 @@ fn record(rows: &[String], row: usize) -> Result<Record, Refusal> {
     accept(&with_end(rows)).map(|sheet| sheet.records[row])
 }
 
-fn refused(number: u32, place: u32) -> Refusal {
+fn refused(number: u32, place: usize) -> Refusal {
     Refusal { number, place }
 }
 

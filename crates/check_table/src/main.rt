@@ -3,7 +3,7 @@
 // the refusal). The file stdout has what the document and its rules say.
 use sheet::Measured;
 
-fn write_pair(words: &[u8], a: u32, b: u32) {
+fn write_pair(words: &[u8], a: u32, b: usize) {
     io::write_all(1, words);
     io::print_decimal(1, a as u64);
     io::write_all(1, b" ");
@@ -23,7 +23,7 @@ fn write_checked(bytes: &[u8], room: usize, row: u8) {
     write_pair(
         b": width and denominator ",
         record.width,
-        record.denominator,
+        record.denominator as usize,
     );
 }
 
@@ -31,7 +31,7 @@ fn write_measured(bytes: &[u8]) {
     let m = table::measure(bytes);
     match m {
         Measured::Counted(k) => {
-            write_pair(b"; counted ", k.variables, k.clauses);
+            write_pair(b"; counted ", k.variables, k.clauses as usize);
             io::write_all(1, b" ");
             io::print_decimal(1, k.slots as u64);
         }

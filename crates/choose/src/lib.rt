@@ -39,13 +39,13 @@ pub fn choose(table: &[u8], values: &[i64]) -> Survey
     if s.number != 0 {
         return s;
     }
-    let unknowns = s.counts.unknowns;
-    if values.len() != unknowns as usize {
+    let unknowns = s.counts.unknowns as usize;
+    if values.len() != unknowns {
         return table::refused(14, unknowns);
     }
     let i = first_outside(table, s.rows, values);
     if i < values.len() {
-        return table::refused(15, i as u32);
+        return table::refused(15, i);
     }
     s
 }

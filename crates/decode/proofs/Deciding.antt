@@ -25,7 +25,7 @@ use Rattle.assign.specs.Clauses.{clausesIn, truths, firstFalse}
 use Rattle.decode.specs.Decoded.{asDecoded}
 use Rattle.decode.specs.Settings.{Decodable}
 use Rattle.decode.proofs.Chain.{Ready, decodable-numbered, decodable-tells}
-use Rattle.decode.proofs.Falsified.{few-clauses, decoding-refused, decoding-false, decoding-true}
+use Rattle.decode.proofs.Falsified.{decoding-refused, decoding-false, decoding-true}
 use Rattle.decode.proofs.Written.{written-slots, written-clauses}
 
 -- the survey of a table that the model makes clause k of false
@@ -115,11 +115,6 @@ module _ (table : List ℕ) (records : ℕ) (map₀ slots₀ : List ℤ) (model 
           first =
               let e : clausesIn (take (s .counts .slots) slots) ≡ clauses (sheet .rows) = ap (λ (t : Survey). clausesIn (take (t .counts .slots) slots)) surveyed ∙ written-clauses table sheet (ready .roomy .is) slots (drop (length (slotsFor (sheet .rows))) slots₀) slots-whole in
               f ∙ ap (λ (cs : List Clause). firstFalse (truths model cs)) e
-
-          pub few-clause : k < 4294967296
-          few-clause =
-              let n : s .counts .clauses ≡ sheet .counts .clauses = ap (λ (t : Survey). t .counts .clauses) surveyed in
-              omega (arith, first, few-clauses model (clauses (sheet .rows)), counts-are-made table sheet (ready .roomy .is) .clause, bounds .counts .clauses)
 
           pub clause-false : (k ≡ 0 → ⊥) → Promised (falsified s k) map slots values₀
           clause-false n =

@@ -30,15 +30,17 @@ pub fn decodable(
         return s;
     }
     let counts = s.counts;
-    if model.len() != counts.variables as usize {
-        return table::refused(16, counts.variables);
+    let variables = counts.variables as usize;
+    if model.len() != variables {
+        return table::refused(16, variables);
     }
     let i = assign::first_not_bit(model);
     if i < model.len() {
-        return table::refused(17, i as u32);
+        return table::refused(17, i);
     }
-    if values < counts.unknowns as usize {
-        return table::refused(18, counts.unknowns);
+    let unknowns = counts.unknowns as usize;
+    if values < unknowns {
+        return table::refused(18, unknowns);
     }
     s
 }
@@ -113,7 +115,7 @@ pub fn decode_core(
     if clause != 0 {
         return Survey {
             number: 19,
-            place: clause as u32,
+            place: clause,
             rows: s.rows,
             records: kept,
             counts,

@@ -59,7 +59,7 @@ pub fn evaluate(table: &[u8], values: &[i64], results: &mut [i64]) -> Answer
         return Answer::Refused(s.number, s.place);
     }
     if results.len() < s.rows {
-        return Answer::Refused(18, s.rows as u32);
+        return Answer::Refused(18, s.rows);
     }
     let records = s.records;
     fill(table, s.rows, records, values, results);

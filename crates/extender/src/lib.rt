@@ -80,9 +80,9 @@ pub fn extend(table: &[u8], values: &[i64], model: &mut [u8]) -> Extended
     if s.number != 0 {
         return Extended::Refused(s.number, s.place);
     }
-    let counts = s.counts;
-    if model.len() < counts.variables as usize {
-        return Extended::Refused(18, counts.variables);
+    let variables = s.counts.variables as usize;
+    if model.len() < variables {
+        return Extended::Refused(18, variables);
     }
     let rows = s.rows;
     let records = s.records;

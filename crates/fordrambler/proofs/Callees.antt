@@ -50,7 +50,7 @@ Rows = Array R 256
 pub number-fits : (v : Survey) (vs : List Val) → Is S.the-row v vs → v .number < 2 ^ 32
 number-fits v vs is = LL.owed S.the-type S′.the-laws v vs is .0 .1
 
-pub place-fits : (v : Survey) (vs : List Val) → Is S.the-row v vs → v .place < 2 ^ 32
+pub place-fits : (v : Survey) (vs : List Val) → Is S.the-row v vs → v .place < 2 ^ 64
 place-fits v vs is = LL.owed S.the-type S′.the-laws v vs is .1 .0 .1
 
 pub rows-fit : (v : Survey) (vs : List Val) → Is S.the-row v vs → v .rows < 2 ^ 64
@@ -92,12 +92,12 @@ module _ {M : Type 1} (𝓤 : URA M) (H : Heap 𝓤) (A : Atoms 𝓤) (mem : Mem
   answer-args v = (v .number, (v .place, tt))
 
   abbrev pub to-answer : Survey → AnswerOf .Ghost
-  to-answer v = ((tt, tt, tt, answer-args v, (vint w32 (v .number) ∷ [], (vint w32 (v .place) ∷ [], tt))), tt)
+  to-answer v = ((tt, tt, tt, answer-args v, (vint w32 (v .number) ∷ [], (vint w64 (v .place) ∷ [], tt))), tt)
 
-  pub goes-answer : Given 𝓤 H A → (v : Survey) → v .number < 2 ^ 32 → v .place < 2 ^ 32 → ent 𝓤 (sem 𝓤 H A ftrue) (AnswerOf .pre (to-answer v))
+  pub goes-answer : Given 𝓤 H A → (v : Survey) → v .number < 2 ^ 32 → v .place < 2 ^ 64 → ent 𝓤 (sem 𝓤 H A ftrue) (AnswerOf .pre (to-answer v))
   goes-answer W v fits fits′ =
-      qed W (‵ ftrue ∷ []) ∵ suffices ! (onEntry 𝓤 H A answer-of.signature tt tt (answer-args v) (vint w32 (v .number) ∷ [], (vint w32 (v .place) ∷ [], tt))) (∗emp 𝓤 _) $ frame ! $
-      nothing ! $ owned ! u32 (Is u32) (uint-makes 𝓤 H A W w32) (v .place) _ (refl, fits′) $ fjoin ! $ owned ! u32 (Is u32) (uint-makes 𝓤 H A W w32) (v .number) _ (refl, fits) $ fjoin ! $ done !
+      qed W (‵ ftrue ∷ []) ∵ suffices ! (onEntry 𝓤 H A answer-of.signature tt tt (answer-args v) (vint w32 (v .number) ∷ [], (vint w64 (v .place) ∷ [], tt))) (∗emp 𝓤 _) $ frame ! $
+      nothing ! $ owned ! usize (Is usize) (uint-makes 𝓤 H A W w64) (v .place) _ (refl, fits′) $ fjoin ! $ owned ! u32 (Is u32) (uint-makes 𝓤 H A W w32) (v .number) _ (refl, fits) $ fjoin ! $ done !
 
   module _ (κ : Lft) (q : Share) (x : RefT (List Record)) where
     abbrev pub Own : Fml

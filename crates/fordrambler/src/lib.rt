@@ -19,7 +19,7 @@ use sheet::Measured;
 use sheet::Record;
 
 // What a survey's number and place answer.
-fn answer_of(number: u32, place: u32) -> Answer
+fn answer_of(number: u32, place: usize) -> Answer
     ensures { λ a. ⌜ a ≡ answerOf number place ⌝ }
 {
     if number == 0 {
@@ -71,7 +71,7 @@ pub fn row_clauses<'a>(
     slots: &'a [i32],
     row: u32,
     number: &mut u32,
-    place: &mut u32,
+    place: &mut usize,
 ) -> &'a [i32]
     ensures { λ part. ⌜ GivesRow (now (table .entry)) (now (slots .entry)) row (now part) (now (number .exit)) (now (place .exit)) ⌝ }
 {

@@ -14,7 +14,7 @@ use ghost.Atoms.{Atoms}
 use contract.Monad.{Fun}
 use types.Kit.{Given, ‵, _⊛_, ⋆, _$_, _∵_, !, qed, move, fjoin, suffices, frame, done}
 use sound.Laws.{∗emp}
-use denote.Builtin.{u32}
+use denote.Builtin.{usize}
 use denote.Ref.{RefT, MutRef}
 use denote.Steps.{nothing}
 use denote.Triple.Entry.{onEntry}
@@ -44,7 +44,7 @@ module _ {M : Type 1} (𝓤 : URA M) (H : Heap 𝓤) (A : Atoms 𝓤) (mem : Mem
   -- the place's name is its parameter's number
   module _ (k : ℕ) (π : Lft) (q : Share) (x : RefT ℕ) where
     abbrev pub OwnPlace : Fml
-    OwnPlace = MutRef (named k) π u32 .own x (at x ∷ [])
+    OwnPlace = MutRef (named k) π usize .own x (at x ∷ [])
 
     abbrev pub to-tell : Answer → Val → Tell .Ghost
     to-tell r w = (((π, tt), (q, tt), tt, (r, (x, tt)), (w ∷ [], (at x ∷ [], tt))), tt)

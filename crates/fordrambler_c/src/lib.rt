@@ -15,7 +15,7 @@ use sheet::Measured;
 use sheet::Record;
 
 // What C is told of an answer: its number is the function's answer, its place goes to a lent number, and what else a success says to others.
-fn tell(answer: Answer, place: &mut u32) -> u32
+fn tell(answer: Answer, place: &mut usize) -> u32
     ensures { λ number. ⌜ (number ≡ numberOf (said answer)) × (now (place .exit) ≡ placeOf (said answer)) ⌝ }
 {
     match answer {
@@ -35,7 +35,7 @@ fn tell_counts(
     variables: &mut u32,
     clauses: &mut u32,
     slots: &mut u32,
-    place: &mut u32,
+    place: &mut usize,
 ) -> u32
     ensures told { λ number. ⌜ (number ≡ numberOf (counted answer)) × (now (place .exit) ≡ placeOf (counted answer)) ⌝ }
     ensures lent { λ _. ⌜ HoldsCounts answer (now (variables .entry)) (now (clauses .entry)) (now (slots .entry)) (now (variables .exit)) (now (clauses .exit)) (now (slots .exit)) ⌝ }
@@ -65,7 +65,7 @@ fn byte(truth: bool) -> u8
     0
 }
 
-fn tell_truth(answer: Extended, truth: &mut u8, place: &mut u32) -> u32
+fn tell_truth(answer: Extended, truth: &mut u8, place: &mut usize) -> u32
     ensures answer { λ number. ⌜ (number ≡ numberOf (told answer)) × (now (place .exit) ≡ placeOf (told answer)) ⌝ }
     ensures lent { λ _. ⌜ now (truth .exit) ≡ held (told answer) bit (now (truth .entry)) ⌝ }
 {
@@ -87,7 +87,7 @@ fn tell_lines(
     table_read: &mut usize,
     rest: &mut usize,
     ended: &mut u8,
-    place: &mut u32,
+    place: &mut usize,
 ) -> u32
     ensures told { λ number. ⌜ (number ≡ numberOf (found answer)) × (now (place .exit) ≡ placeOf (found answer)) ⌝ }
     ensures length { λ _. ⌜ now («table_read» .exit) ≡ held (found answer) tableBytes (now («table_read» .entry)) ⌝ }
@@ -108,7 +108,7 @@ fn tell_lines(
     }
 }
 
-fn tell_claim(answer: ClaimRead, claim: &mut u8, place: &mut u32) -> u32
+fn tell_claim(answer: ClaimRead, claim: &mut u8, place: &mut usize) -> u32
     ensures told { λ number. ⌜ (number ≡ numberOf (claimed answer)) × (now (place .exit) ≡ placeOf (claimed answer)) ⌝ }
     ensures lent { λ _. ⌜ now (claim .exit) ≡ held (claimed answer) bit (now (claim .entry)) ⌝ }
 {
@@ -131,7 +131,7 @@ fn tell_claim(answer: ClaimRead, claim: &mut u8, place: &mut u32) -> u32
 }
 
 #[no_mangle]
-pub extern "C" fn fordrambler_check(table: &[u8], records: &mut [Record], place: &mut u32) -> u32
+pub extern "C" fn fordrambler_check(table: &[u8], records: &mut [Record], place: &mut usize) -> u32
     ensures { λ number. ⌜ TellsCheck (now (table .entry)) (now (records .entry)) number (now (place .exit)) (now (records .exit)) ⌝ }
 {
     let a = fordrambler::check(table, records);
@@ -145,7 +145,7 @@ pub extern "C" fn fordrambler_measure(
     variables: &mut u32,
     clauses: &mut u32,
     slots: &mut u32,
-    place: &mut u32,
+    place: &mut usize,
 ) -> u32
     ensures { λ number. ⌜ TellsMeasure (now (table .entry)) (now (variables .entry)) (now (clauses .entry)) (now (slots .entry)) number (now (place .exit)) (now (variables .exit)) (now (clauses .exit)) (now (slots .exit)) ⌝ }
 {
@@ -159,7 +159,7 @@ pub extern "C" fn fordrambler_write(
     records: &mut [Record],
     map: &mut [i32],
     slots: &mut [i32],
-    place: &mut u32,
+    place: &mut usize,
 ) -> u32
     ensures { λ number. ⌜ TellsWrite (now (table .entry)) (now (records .entry)) (now (map .entry)) (now (slots .entry)) number (now (place .exit)) (now (records .exit)) (now (map .exit)) (now (slots .exit)) ⌝ }
 {
@@ -175,7 +175,7 @@ pub extern "C" fn fordrambler_row_clauses(
     row: u32,
     first: &mut usize,
     count: &mut usize,
-    place: &mut u32,
+    place: &mut usize,
 ) -> u32
     ensures { λ number. ⌜ PlacesRow (now (table .entry)) (now (slots .entry)) row (now (first .entry)) (now (count .entry)) number (now (place .exit)) (now (first .exit)) (now (count .exit)) ⌝ }
 {
@@ -194,7 +194,7 @@ pub extern "C" fn fordrambler_evaluate(
     table: &[u8],
     values: &[i64],
     results: &mut [i64],
-    place: &mut u32,
+    place: &mut usize,
 ) -> u32
     ensures { λ number. ⌜ TellsEvaluate (now (table .entry)) (now (values .entry)) (now (results .entry)) number (now (place .exit)) (now (results .exit)) ⌝ }
 {
@@ -209,7 +209,7 @@ pub extern "C" fn fordrambler_extend(
     values: &[i64],
     model: &mut [u8],
     truth: &mut u8,
-    place: &mut u32,
+    place: &mut usize,
 ) -> u32
     ensures { λ number. ⌜ TellsExtend (now (table .entry)) (now (values .entry)) (now (model .entry)) (now (truth .entry)) number (now (place .exit)) (now (model .exit)) (now (truth .exit)) ⌝ }
 {
@@ -225,7 +225,7 @@ pub extern "C" fn fordrambler_decode(
     slots: &mut [i32],
     model: &[u8],
     values: &mut [i64],
-    place: &mut u32,
+    place: &mut usize,
 ) -> u32
     ensures { λ number. ⌜ TellsDecode (now (table .entry)) (now (records .entry)) (now (map .entry)) (now (slots .entry)) (now (model .entry)) (now (values .entry)) number (now (place .exit)) (now (records .exit)) (now (map .exit)) (now (slots .exit)) (now (values .exit)) ⌝ }
 {
@@ -239,7 +239,7 @@ pub extern "C" fn fordrambler_read_lines(
     text: &[u8],
     table: &mut [u8],
     table_read: &mut usize,
-    place: &mut u32,
+    place: &mut usize,
 ) -> u32
     ensures { λ number. ⌜ TellsLines (now (text .entry)) (now (table .entry)) (now («table_read» .entry)) number (now (place .exit)) (now (table .exit)) (now («table_read» .exit)) ⌝ }
 {
@@ -257,7 +257,7 @@ pub extern "C" fn fordrambler_read_lines_until_empty(
     table_read: &mut usize,
     rest: &mut usize,
     ended: &mut u8,
-    place: &mut u32,
+    place: &mut usize,
 ) -> u32
     ensures { λ number. ⌜ TellsLinesUntilEmpty (now (text .entry)) (now (table .entry)) (now («table_read» .entry)) (now (rest .entry)) (now (ended .entry)) number (now (place .exit)) (now (table .exit)) (now («table_read» .exit)) (now (rest .exit)) (now (ended .exit)) ⌝ }
 {
@@ -272,7 +272,7 @@ pub extern "C" fn fordrambler_read_claim(
     variables: u32,
     model: &mut [u8],
     claim: &mut u8,
-    place: &mut u32,
+    place: &mut usize,
 ) -> u32
     ensures { λ number. ⌜ TellsClaim (now (text .entry)) variables (now (model .entry)) (now (claim .entry)) number (now (place .exit)) (now (model .exit)) (now (claim .exit)) ⌝ }
 {

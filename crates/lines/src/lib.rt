@@ -96,7 +96,7 @@ fn judge(text: &[u8], blank: bool) -> LinesRead
             return LinesRead::Refused(2, 0);
         }
         if !begins_line(&text[at..]) {
-            return LinesRead::Refused(20, rows);
+            return LinesRead::Refused(20, rows as usize);
         }
         at += 17;
         rows += 1;

@@ -133,7 +133,7 @@ pub fn dimacs_page(variables: u32, clauses: u32, slots: &[i32], from: usize, out
 }
 
 // The line of a refusal at the front of out, if it has 64 bytes; how many bytes it has.
-pub fn refused_line(number: u32, place: u32, out: &mut [u8]) -> usize
+pub fn refused_line(number: u32, place: usize, out: &mut [u8]) -> usize
     ensures answer { λ r. ⌜ r ≡ pageFrom 0 (refusedLine number place ∷ []) (length (now (out .entry))) .size ⌝ }
     ensures out { λ _. ⌜ now (out .exit) ≡ paged 0 (refusedLine number place ∷ []) (now (out .entry)) ⌝ }
 {

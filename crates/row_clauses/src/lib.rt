@@ -8,12 +8,12 @@ ghost use Rattle.row_clauses.specs.Finding.{asFound};
 // Where a row's slots stand and how many they are, or a refusal and no slots.
 pub struct Found {
     pub number: u32,
-    pub place: u32,
+    pub place: usize,
     pub first: usize,
     pub slots: usize,
 }
 
-fn refused(number: u32, place: u32) -> Found
+fn refused(number: u32, place: usize) -> Found
     ensures { λ f. ⌜ f ≡ record { number = number; place = place; first = 0; slots = 0 } ⌝ }
 {
     Found {
@@ -33,13 +33,13 @@ pub fn find(table: &[u8], room: usize, row: u32) -> Found
     if s.number != 0 {
         return refused(s.number, s.place);
     }
-    let counts = s.counts;
-    if room < counts.slots as usize {
-        return refused(13, counts.slots);
+    let needed = s.counts.slots as usize;
+    if room < needed {
+        return refused(13, needed);
     }
     let i = row as usize;
     if s.rows <= i {
-        return refused(22, s.rows as u32);
+        return refused(22, s.rows);
     }
     let records = s.records;
     let own = records[i];
@@ -58,7 +58,7 @@ pub fn row_clauses<'a>(
     slots: &'a [i32],
     row: u32,
     number: &mut u32,
-    place: &mut u32,
+    place: &mut usize,
 ) -> &'a [i32]
     ensures { λ r. ⌜ GivesRow (now (table .entry)) (now (slots .entry)) row (now r) (now (number .exit)) (now (place .exit)) ⌝ }
 {

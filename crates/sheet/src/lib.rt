@@ -70,19 +70,19 @@ pub enum Verdict {
 // What measuring answers: what the table counts, or its refusal's number and place.
 pub enum Measured {
     Counted(Counts),
-    Refused(u32, u32),
+    Refused(u32, usize),
 }
 
 // What a call answers that writes into lent buffers.
 pub enum Answer {
     Done,
-    Refused(u32, u32),
+    Refused(u32, usize),
 }
 
 // What extending answers: whether the constraint is true of the values.
 pub enum Extended {
     Constraint(bool),
-    Refused(u32, u32),
+    Refused(u32, usize),
 }
 
 // What a reader of lines found: how many rows, where the text behind them begins, and whether an empty line ended them.
@@ -95,12 +95,12 @@ pub struct LinesFound {
 // The answer of a reader of lines; a refusal has its number and place.
 pub enum LinesRead {
     Read(LinesFound),
-    Refused(u32, u32),
+    Refused(u32, usize),
 }
 
 // The answer of the reader of the solver's text; a model's bytes are in the buffer that was lent.
 pub enum ClaimRead {
     Model,
     NoneClaimed,
-    Refused(u32, u32),
+    Refused(u32, usize),
 }

@@ -189,8 +189,9 @@ pub fn read_claim(text: &[u8], variables: u32, model: &mut [u8]) -> ClaimRead
     ensures answer { λ r. ⌜ claimed r ≡ (readClaim variables (now (text .entry)) (length (now (model .entry))) giving isModel) ⌝ }
     ensures model { λ _. ⌜ now (model .exit) ≡ left (readClaim variables (now (text .entry)) (length (now (model .entry)))) modelBytes (now (model .entry)) ⌝ }
 {
-    if model.len() < variables as usize {
-        return ClaimRead::Refused(18, variables);
+    let needed = variables as usize;
+    if model.len() < needed {
+        return ClaimRead::Refused(18, needed);
     }
     let claim = judge(text, variables);
     match claim {

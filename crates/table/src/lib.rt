@@ -104,7 +104,7 @@ fn verdict_on(reading: Reading, r: usize, first: u32, a: Record, b: Record, c: R
 }
 
 // A table that is refused has no rows.
-pub fn refused(number: u32, place: u32) -> Survey
+pub fn refused(number: u32, place: usize) -> Survey
     ensures answer { λ s. ⌜ s ≡ asSurvey (Acceptance.refused number place) ⌝ }
     ensures bounds { λ s. ⌜ InBounds s ⌝ }
 {
@@ -128,7 +128,7 @@ fn ending(records: [Record; 256], rows: usize, so: Counts) -> Survey
     let last = rows - 1;
     let record = records[last];
     if record.sort == 1 {
-        return refused(10, last as u32);
+        return refused(10, last);
     }
     let counts = counting::plus(so, THE_LAST);
     Survey {
@@ -164,7 +164,7 @@ pub fn survey(table: &[u8]) -> Survey
         let z = at.z;
         let verdict = verdict_on(reading, r, so.slots, records[x], records[y], records[z]);
         let Verdict::Pass(record, counts) = verdict else {
-            return refused(number_of_verdict(verdict), r as u32);
+            return refused(number_of_verdict(verdict), r);
         };
         records[r] = record;
         so = counting::plus(so, counts);
@@ -195,7 +195,7 @@ pub fn check_core(table: &[u8], room: usize) -> Survey
         return s;
     }
     if room < s.rows {
-        return refused(11, s.rows as u32);
+        return refused(11, s.rows);
     }
     s
 }

@@ -6,7 +6,7 @@ use sheet::Extended;
 use sheet::Measured;
 use sheet::Record;
 
-fn write_refusal(words: &[u8], number: u32, place: u32) {
+fn write_refusal(words: &[u8], number: u32, place: usize) {
     io::write_all(1, words);
     io::write_all(1, b" refused ");
     io::print_decimal(1, number as u64);

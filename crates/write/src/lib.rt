@@ -24,11 +24,11 @@ pub fn fitting(table: &[u8], records: usize, map: usize, slots: usize) -> Survey
     }
     let places = literal_map::places(s.rows);
     if map < places {
-        return table::refused(12, places as u32);
+        return table::refused(12, places);
     }
-    let counts = s.counts;
-    if slots < counts.slots as usize {
-        return table::refused(13, counts.slots);
+    let needed = s.counts.slots as usize;
+    if slots < needed {
+        return table::refused(13, needed);
     }
     s
 }

@@ -2,7 +2,7 @@
 // the last row's own clauses, a line ending behind each 0. The file stdout has what the document says; the clauses of the second example
 // were worked out from the document's rules.
 
-fn write_refusal(number: u32, place: u32) {
+fn write_refusal(number: u32, place: usize) {
     io::write_all(1, b"refused ");
     io::print_decimal(1, number as u64);
     io::write_all(1, b" ");

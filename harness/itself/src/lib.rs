@@ -11,7 +11,7 @@ type Out<T> = *mut T;
 /// # Safety
 /// As include/fordrambler.h says of its pointers.
 #[no_mangle]
-pub unsafe extern "C" fn fordrambler_check(t: In<u8>, tl: usize, r: Out<Record>, rl: usize, place: Out<u32>) -> u32 {
+pub unsafe extern "C" fn fordrambler_check(t: In<u8>, tl: usize, r: Out<Record>, rl: usize, place: Out<usize>) -> u32 {
     lent::check(part(t, tl), lent_part(r, rl), &mut *place)
 }
 
@@ -24,7 +24,7 @@ pub unsafe extern "C" fn fordrambler_measure(
     variables: Out<u32>,
     clauses: Out<u32>,
     slots: Out<u32>,
-    place: Out<u32>,
+    place: Out<usize>,
 ) -> u32 {
     lent::measure(part(t, tl), &mut *variables, &mut *clauses, &mut *slots, &mut *place)
 }
@@ -41,7 +41,7 @@ pub unsafe extern "C" fn fordrambler_write(
     ml: usize,
     s: Out<i32>,
     sl: usize,
-    place: Out<u32>,
+    place: Out<usize>,
 ) -> u32 {
     lent::write(part(t, tl), lent_part(r, rl), lent_part(m, ml), lent_part(s, sl), &mut *place)
 }
@@ -57,7 +57,7 @@ pub unsafe extern "C" fn fordrambler_row_clauses(
     row: u32,
     first: Out<usize>,
     count: Out<usize>,
-    place: Out<u32>,
+    place: Out<usize>,
 ) -> u32 {
     lent::row_clauses(part(t, tl), part(s, sl), row, &mut *first, &mut *count, &mut *place)
 }
@@ -72,7 +72,7 @@ pub unsafe extern "C" fn fordrambler_evaluate(
     vl: usize,
     r: Out<i64>,
     rl: usize,
-    place: Out<u32>,
+    place: Out<usize>,
 ) -> u32 {
     lent::evaluate(part(t, tl), part(v, vl), lent_part(r, rl), &mut *place)
 }
@@ -88,7 +88,7 @@ pub unsafe extern "C" fn fordrambler_extend(
     m: Out<u8>,
     ml: usize,
     truth: Out<u8>,
-    place: Out<u32>,
+    place: Out<usize>,
 ) -> u32 {
     lent::extend(part(t, tl), part(v, vl), lent_part(m, ml), &mut *truth, &mut *place)
 }
@@ -109,7 +109,7 @@ pub unsafe extern "C" fn fordrambler_decode(
     model_len: usize,
     v: Out<i64>,
     vl: usize,
-    place: Out<u32>,
+    place: Out<usize>,
 ) -> u32 {
     let (records, map, slots) = (lent_part(r, rl), lent_part(m, ml), lent_part(s, sl));
     lent::decode(part(t, tl), records, map, slots, part(model, model_len), lent_part(v, vl), &mut *place)
@@ -124,7 +124,7 @@ pub unsafe extern "C" fn fordrambler_read_lines(
     t: Out<u8>,
     tl: usize,
     table_read: Out<usize>,
-    place: Out<u32>,
+    place: Out<usize>,
 ) -> u32 {
     lent::read_lines(part(x, xl), lent_part(t, tl), &mut *table_read, &mut *place)
 }
@@ -140,7 +140,7 @@ pub unsafe extern "C" fn fordrambler_read_lines_until_empty(
     table_read: Out<usize>,
     rest: Out<usize>,
     ended: Out<u8>,
-    place: Out<u32>,
+    place: Out<usize>,
 ) -> u32 {
     let text = part(x, xl);
     lent::read_lines_until_empty(text, lent_part(t, tl), &mut *table_read, &mut *rest, &mut *ended, &mut *place)
@@ -156,7 +156,7 @@ pub unsafe extern "C" fn fordrambler_read_claim(
     m: Out<u8>,
     ml: usize,
     claim: Out<u8>,
-    place: Out<u32>,
+    place: Out<usize>,
 ) -> u32 {
     lent::read_claim(part(x, xl), variables, lent_part(m, ml), &mut *claim, &mut *place)
 }

@@ -22,11 +22,12 @@ pub enum Request {
 #[derive(PartialEq)]
 pub struct Outcome {
     pub number: u32,
-    pub place: u32,
+    pub place: usize,
     pub lent: Vec<(&'static str, Vec<i64>)>,
 }
 
 const PATTERN: u32 = 0xdead_beef;
+const SIZE: usize = 0xdead_beef_dead_beef;
 const BYTE: u8 = 0xa7;
 
 fn longs<T: Copy + Into<i64>>(numbers: &[T]) -> Vec<i64> {
@@ -62,7 +63,7 @@ impl Request {
 
     /// Makes the call, over copies of what is lent.
     pub fn make(&self, library: &mut dyn Library) -> Outcome {
-        let mut place = PATTERN;
+        let mut place = SIZE;
         let (number, lent) = match self {
             Request::Check { .. } | Request::Measure { .. } | Request::Write { .. } | Request::RowClauses { .. } => {
                 self.make_of_table(library, &mut place)
@@ -75,7 +76,7 @@ impl Request {
         Outcome { number, place, lent }
     }
 
-    fn make_of_table(&self, library: &mut dyn Library, place: &mut u32) -> (u32, Vec<(&'static str, Vec<i64>)>) {
+    fn make_of_table(&self, library: &mut dyn Library, place: &mut usize) -> (u32, Vec<(&'static str, Vec<i64>)>) {
         match self {
             Request::Check { table, records } => {
                 let mut records = records.clone();
@@ -93,7 +94,7 @@ impl Request {
                 (number, lent.lent())
             }
             Request::RowClauses { table, slots, row } => {
-                let (mut first, mut count) = (PATTERN as usize, PATTERN as usize);
+                let (mut first, mut count) = (SIZE, SIZE);
                 let number = library.row_clauses(table, slots, *row, &mut first, &mut count, place);
                 (number, vec![("first, count", vec![first as i64, count as i64])])
             }
@@ -101,7 +102,7 @@ impl Request {
         }
     }
 
-    fn make_of_values(&self, library: &mut dyn Library, place: &mut u32) -> (u32, Vec<(&'static str, Vec<i64>)>) {
+    fn make_of_values(&self, library: &mut dyn Library, place: &mut usize) -> (u32, Vec<(&'static str, Vec<i64>)>) {
         match self {
             Request::Evaluate { table, values, results } => {
                 let mut results = results.clone();
@@ -125,15 +126,15 @@ impl Request {
         }
     }
 
-    fn make_of_text(&self, library: &mut dyn Library, place: &mut u32) -> (u32, Vec<(&'static str, Vec<i64>)>) {
+    fn make_of_text(&self, library: &mut dyn Library, place: &mut usize) -> (u32, Vec<(&'static str, Vec<i64>)>) {
         match self {
             Request::ReadLines { text, table } => {
-                let (mut table, mut read) = (table.clone(), PATTERN as usize);
+                let (mut table, mut read) = (table.clone(), SIZE);
                 let number = library.read_lines(text, &mut table, &mut read, place);
                 (number, vec![("table", longs(&table)), ("table_read", vec![read as i64])])
             }
             Request::ReadLinesUntilEmpty { text, table } => {
-                let (mut table, mut read, mut rest) = (table.clone(), PATTERN as usize, PATTERN as usize);
+                let (mut table, mut read, mut rest) = (table.clone(), SIZE, SIZE);
                 let mut ended = BYTE;
                 let number = library.read_lines_until_empty(text, &mut table, &mut read, &mut rest, &mut ended, place);
                 let numbers = vec![read as i64, rest as i64, ended.into()];

@@ -24,8 +24,8 @@ returns c =
     let (value, bounds) = v .survey .ensures in
     (stays (s .args .table .now) (s .args .values .now) value (c .if1 .taken), bounds)
 
-cast-if2 : tie.Need-cast-if2
-cast-if2 c = search needs
+cast-unknowns : tie.Need-cast-unknowns
+cast-unknowns c = search needs
 
 refused-requires : tie.Need-refused-requires
 refused-requires c κs = search needs
@@ -33,7 +33,7 @@ refused-requires c κs = search needs
 returns-2 : tie.Need-returns-2
 returns-2 c =
     let d = c .before in
-    let n = d .before in
+    let n = d .before .before in
     let v = n .before .before in
     let s = v .before .before in
     let (value, bounds) = c .refused .ensures in
@@ -41,13 +41,10 @@ returns-2 c =
 
 first-outside-requires : tie.Need-first-outside-requires
 first-outside-requires c κs =
-    let n = c .before in
+    let n = c .before .before in
     let v = n .before .before in
     let s = v .before .before in
     matched (s .args .table .now) (s .args .values .now) (read n) (c .if2 .left)
-
-cast-refused : tie.Need-cast-refused
-cast-refused c = search needs
 
 refused-requires-2 : tie.Need-refused-requires-2
 refused-requires-2 c κs = search needs
@@ -57,7 +54,7 @@ returns-3 c =
     let o = c .before in
     let f = o .before in
     let d = f .before in
-    let n = d .before in
+    let n = d .before .before in
     let v = n .before .before in
     let s = v .before .before in
     let (value, bounds) = c .refused2 .ensures in
@@ -67,7 +64,7 @@ returns-4 : tie.Need-returns-4
 returns-4 c =
     let f = c .before in
     let d = f .before in
-    let n = d .before in
+    let n = d .before .before in
     let v = n .before .before in
     let s = v .before .before in
     (all-inside (s .args .table .now) (s .args .values .now) (read n) (d .if2 .left) (f .first-outside .ensures) (c .if3 .left), v .survey .ensures .1)
@@ -78,11 +75,10 @@ choose-spec =
     (tie.spec
     survey-requires
     returns
-    cast-if2
+    cast-unknowns
     refused-requires
     returns-2
     first-outside-requires
-    cast-refused
     refused-requires-2
     returns-3
     returns-4)

@@ -22,8 +22,8 @@ returns c =
     let (n, p, is, e) = was-refused (writing (s .args .table .now) (s .args .records) (s .args .map) (s .args .slots)) value (c .if1 .taken) in
     (rw is e, bounds)
 
-cast-if2 : tie.Need-cast-if2
-cast-if2 c = search needs
+cast-variables : tie.Need-cast-variables
+cast-variables c = search needs
 
 refused-requires : tie.Need-refused-requires
 refused-requires c κs = search needs
@@ -42,9 +42,6 @@ returns-2 c =
 first-not-bit-requires : tie.Need-first-not-bit-requires
 first-not-bit-requires c κs = search needs
 
-cast-refused : tie.Need-cast-refused
-cast-refused c = search needs
-
 refused-requires-2 : tie.Need-refused-requires-2
 refused-requires-2 c κs = search needs
 
@@ -61,8 +58,8 @@ returns-3 c =
     let (sheet, is, f) = was-accepted (writing (s .args .table .now) (s .args .records) (s .args .map) (s .args .slots)) (v .fitting .ensures .0) (writing-numbered (s .args .table .now) (s .args .records) (s .args .map) (s .args .slots)) (n .if1 .left) in
     (rw (is, eq-eqb _ _ (rw f at (m .if2 .left)), byte-refused (s .args .model .now) (b .first-not-bit .ensures) (k .if3 .taken)) value, bounds)
 
-cast-if4 : tie.Need-cast-if4
-cast-if4 c = search needs
+cast-unknowns : tie.Need-cast-unknowns
+cast-unknowns c = search needs
 
 refused-requires-3 : tie.Need-refused-requires-3
 refused-requires-3 c κs = search needs
@@ -102,14 +99,13 @@ decodable-spec =
     (tie.spec
     fitting-requires
     returns
-    cast-if2
+    cast-variables
     refused-requires
     returns-2
     first-not-bit-requires
-    cast-refused
     refused-requires-2
     returns-3
-    cast-if4
+    cast-unknowns
     refused-requires-3
     returns-4
     returns-5)

@@ -1,11 +1,10 @@
 -- `decode::decode_core` meets its contract. Assumes nothing.
 use mathlib.Core.Path.{sym}
 use Prim.Native.Nat.{_≤_}
-use native.Mathlib.Omega.{arith}
 use borrow.Author.Needs.{needs}
 use lib.ListN.{length}
 use lib.Seq.{length-take-le}
-use Rattle.decode.proofs.Deciding.{nothing-written, to-write, slots-fit, slots-named, to-put, few-clause, clause-false, clauses-true}
+use Rattle.decode.proofs.Deciding.{nothing-written, to-write, slots-fit, slots-named, to-put, clause-false, clauses-true}
 use Rattle.decode.proofs.decode_core.Statement.{statement}
 use Rattle.decode.proofs.decode_core.Tie as tie
 
@@ -58,16 +57,6 @@ first-false-requires c κs =
     let (value, bounds) = v .decodable .ensures in
     let (slots, map) = w .write-table .ensures in
     slots-named (s .args .table .now) (s .args .records) (s .args .map .now) (s .args .slots .now) (s .args .model .now) (s .args .values .now) value bounds (n .if1 .left) map slots
-
-cast-t23 : tie.Need-cast-t23
-cast-t23 c =
-    let w = c .before .before .before .before .before .before in
-    let n = w .before .before .before .before .before in
-    let v = n .before .before in
-    let s = v .before .before .before in
-    let (value, bounds) = v .decodable .ensures in
-    let (slots, map) = w .write-table .ensures in
-    omega (arith, few-clause (s .args .table .now) (s .args .records) (s .args .map .now) (s .args .slots .now) (s .args .model .now) (s .args .values .now) value bounds (n .if1 .left) map slots (c .before .first-false .ensures))
 
 same-length : tie.Need-same-length
 same-length c = search needs
@@ -127,7 +116,6 @@ decode-core-spec =
     slice-reshare-prefix-first-false
     slice-aggregate-first-false
     first-false-requires
-    cast-t23
     same-length
     same-length-2
     returns-2

@@ -22,15 +22,11 @@ returns c =
     let s = v .before .before in
     not-chosen (s .args .table .now) (s .args .values .now) (s .args .results .now) (v .choose .ensures .0) (c .if1 .taken)
 
-cast-t8 : tie.Need-cast-t8
-cast-t8 c = search needs
-
 returns-2 : tie.Need-returns-2
 returns-2 c =
-    let h = c .before in
-    let n = h .before .before in
+    let n = c .before .before in
     let s = n .before .before .before .before in
-    too-short (s .args .table .now) (s .args .values .now) (s .args .results .now) (read n) (h .if2 .taken)
+    too-short (s .args .table .now) (s .args .values .now) (s .args .results .now) (read n) (c .if2 .taken)
 
 fill-requires : tie.Need-fill-requires
 fill-requires c κs =
@@ -53,4 +49,4 @@ returns-3 c =
 pub evaluate-spec : {M : Type 1} → statement M
 evaluate-spec =
     tie.close
-    (tie.spec choose-requires returns cast-t8 returns-2 fill-requires same-length returns-3)
+    (tie.spec choose-requires returns returns-2 fill-requires same-length returns-3)

@@ -25,12 +25,12 @@ returns c =
     let s = v .before .before .before in
     not-chosen (s .args .table .now) (s .args .values .now) (s .args .model .now) (v .choose .ensures .0) (c .if1 .taken)
 
-cast-if2 : tie.Need-cast-if2
-cast-if2 c = search needs
+cast-variables : tie.Need-cast-variables
+cast-variables c = search needs
 
 returns-2 : tie.Need-returns-2
 returns-2 c =
-    let n = c .before .before .before in
+    let n = c .before .before in
     let s = n .before .before .before .before .before in
     too-short (s .args .table .now) (s .args .values .now) (s .args .model .now) (read n) (c .if2 .taken)
 
@@ -40,7 +40,7 @@ slice-aggregate-fill c = search needs
 fill-requires : tie.Need-fill-requires
 fill-requires c κs =
     let h = c .before .before in
-    let n = h .before .before .before in
+    let n = h .before .before in
     let s = n .before .before .before .before .before in
     evaluable (s .args .table .now) (s .args .values .now) (replicate 256 (pos 0)) (read n) (n .before .before .choose .ensures .1 .few)
 
@@ -51,7 +51,7 @@ extend-rows-requires : tie.Need-extend-rows-requires
 extend-rows-requires c κs =
     let f = c .before .before .before in
     let h = f .before .before .before in
-    let n = h .before .before .before in
+    let n = h .before .before in
     let s = n .before .before .before .before .before in
     extendable (s .args .table .now) (s .args .values .now) (s .args .model .now) (read n) (h .if2 .left) _ (f .fill .ensures)
 
@@ -60,7 +60,7 @@ slice-aggregate-is-true c = search needs
 
 sub-is-true : tie.Need-sub-is-true
 sub-is-true c =
-    let n = c .before .before .before .before .before .before .before .before .before .before .before .before .before in
+    let n = c .before .before .before .before .before .before .before .before .before .before .before .before in
     let s = n .before .before .before .before .before in
     some (s .args .table .now) (s .args .values .now) (s .args .model .now) (read n)
 
@@ -75,7 +75,7 @@ returns-3 c =
     let x = c .before .before .before .before in
     let f = x .before .before .before .before in
     let h = f .before .before .before in
-    let n = h .before .before .before in
+    let n = h .before .before in
     let s = n .before .before .before .before .before in
     extended (s .args .table .now) (s .args .values .now) (s .args .model .now) (read n) (h .if2 .left) _ (f .fill .ensures) (c .is-true .ensures) (x .extend-rows .ensures)
 
@@ -85,7 +85,7 @@ extend-spec =
     (tie.spec
     choose-requires
     returns
-    cast-if2
+    cast-variables
     returns-2
     slice-aggregate-fill
     fill-requires

@@ -23,7 +23,7 @@ use sound.WpLaws.{FmC, fmOf, WpFn-mono}
 use denote.RattleType.{owns}
 use denote.Laws.{Is, shows}
 use denote.Plain.{uint-lawful}
-use denote.Builtin.{u8, u32}
+use denote.Builtin.{u8, u32, usize}
 use denote.Ref.{RefT, MutRef, ptr-vals, mut-tells}
 use denote.Slice.{MutSlice, ShrSlice, Room, finally, slice-vals, mut-slice-tells, shr-slice-tells, shr-slice-copy}
 use denote.Signature.{plain}
@@ -58,7 +58,7 @@ use Rattle.fordrambler_c.proofs.fordrambler_check.Statement as stated
 use Rattle.fordrambler_c.proofs.fordrambler_check.Code as code
 
 abbrev stayed : Stays (f.ended .signature .params) (f.ended .kept)
-stayed = (stay-none-slice (0 ∷ []) tt (plain (λ _. u8)) yes, (gave-slice (1 ∷ []) tt (plain (λ _. R)), (gave-ref (2 ∷ []) tt (plain (λ _. u32)), tt)))
+stayed = (stay-none-slice (0 ∷ []) tt (plain (λ _. u8)) yes, (gave-slice (1 ∷ []) tt (plain (λ _. R)), (gave-ref (2 ∷ []) tt (plain (λ _. usize)), tt)))
 
 abbrev Check : {M : Type 1} (𝓤 : URA M) (H : Heap 𝓤) (A : Atoms 𝓤) (mem : Memory → SProp 𝓤) (run : Routine → Fun 𝓤) → Contract 𝓤
 Check 𝓤 H A mem run = tripleOf 𝓤 H A check.signature (check.spec 𝓤 H A mem run)
@@ -98,9 +98,9 @@ module _ {M : Type 1} (𝓤 : URA M) (H : Heap 𝓤) (A : Atoms 𝓤) (W : Given
       suffices ! (onEntry 𝓤 H A check.signature (κ, (κ′, tt)) (q, (q′, tt)) handed handed-vals) (∗emp 𝓤 _) $ frame ! $ done !
 
   exits : (r : Answer) (zr : List Record) (m p : ℕ) (u : Val) → Done r zr → Told r m p → length zr ≡ length (x .now)
-      → ent 𝓤 (⋆ 𝓤 H A (‵ (u32 .own m (u ∷ [])) ∷ (‵ (flft π qp) ⊛ ‵ ftrue) ∷ ‵ (fres (xp .name) (u32 .coded .code p)) ∷ (‵ (flft κ q) ⊛ ‵ (flft κ′ q′) ⊛ ‵ ftrue) ∷ ‵ (finally R (x .name) zr) ∷ ‵ OwnF ∷ [])) (Post u)
+      → ent 𝓤 (⋆ 𝓤 H A (‵ (u32 .own m (u ∷ [])) ∷ (‵ (flft π qp) ⊛ ‵ ftrue) ∷ ‵ (fres (xp .name) (usize .coded .code p)) ∷ (‵ (flft κ q) ⊛ ‵ (flft κ′ q′) ⊛ ‵ ftrue) ∷ ‵ (finally R (x .name) zr) ∷ ‵ OwnF ∷ [])) (Post u)
   exits r zr m p u did told lzr =
-      qed W (‵ (u32 .own m (u ∷ [])) ∷ (‵ (flft π qp) ⊛ ‵ ftrue) ∷ ‵ (fres (xp .name) (u32 .coded .code p)) ∷ (‵ (flft κ q) ⊛ ‵ (flft κ′ q′) ⊛ ‵ ftrue) ∷ ‵ (finally R (x .name) zr) ∷ ‵ OwnF ∷ []) ∵
+      qed W (‵ (u32 .own m (u ∷ [])) ∷ (‵ (flft π qp) ⊛ ‵ ftrue) ∷ ‵ (fres (xp .name) (usize .coded .code p)) ∷ (‵ (flft κ q) ⊛ ‵ (flft κ′ q′) ⊛ ‵ ftrue) ∷ ‵ (finally R (x .name) zr) ∷ ‵ OwnF ∷ []) ∵
       suffices ! _ (ends-at 𝓤 H A f.ended stayed (f.clauses 𝓤 H A mem run) W (((κ, (κ′, (π, tt))), (q, (q′, (qp, tt))), tt, a, vals), tt) u m (tt, (zr, (p, tt))) (tt, (lzr, (tt, tt)))) $
       says ! (tells (λ (b : Answer). Checks (xf .now) (x .now) b zr) r m p did told) $
       move ! (3 ∷ []) $ split ! $ move ! (1 ∷ []) $ split ! $ move ! (0 ∷ 4 ∷ []) $ join ! $ move ! (2 ∷ 0 ∷ []) $ join ! $ frame ! $ move ! (2 ∷ 0 ∷ []) $ fjoin ! $ move ! (2 ∷ 0 ∷ []) $ fjoin ! $ move ! (2 ∷ 0 ∷ []) $ fjoin ! $ done !
@@ -109,7 +109,7 @@ module _ {M : Type 1} (𝓤 : URA M) (H : Heap 𝓤) (A : Atoms 𝓤) (W : Given
     walk : Room u8 (length (xf .now)) → Room R (length (x .now))
         → ent 𝓤 (onEntry 𝓤 H A f.signature (κ, (κ′, (π, tt))) (q, (q′, (qp, tt))) a vals) (WpFn 𝓤 H C Λ code.function (val xf ∷ val x ∷ at xp ∷ []) Post)
     walk roomf room =
-        qed W ((‵ (flft κ q) ⊛ ‵ (flft κ′ q′) ⊛ ‵ (flft π qp) ⊛ ‵ ftrue) ∷ ‵ (owns (ShrSlice (named 0) κ u8 ∷ MutSlice (named 1) κ′ R ∷ MutRef (named 2) π u32 ∷ []) a vals) ∷ []) ∵
+        qed W ((‵ (flft κ q) ⊛ ‵ (flft κ′ q′) ⊛ ‵ (flft π qp) ⊛ ‵ ftrue) ∷ ‵ (owns (ShrSlice (named 0) κ u8 ∷ MutSlice (named 1) κ′ R ∷ MutRef (named 2) π usize ∷ []) a vals) ∷ []) ∵
         enter ! C Λ code.function (val xf ∷ val x ∷ at xp ∷ []) _ $
         alloc1 ! (λ l₀. alloc1 ! (λ l₁. alloc1 ! (λ l₂. alloc1 ! (λ l₃. alloc1 ! (λ l₄. alloc1 ! (λ l₅. alloc1 ! (λ l₆. alloc1 ! (λ l₇. alloc0 ! $ params1 ! $
         pass1 ! (init ! 12 refl (tt, (tt, (record { fits = roomf .0 }, tt)))) $ pass1 ! (init ! 10 refl (tt, (tt, (record { fits = room .0 }, tt)))) $ pass1 ! (init ! 8 refl (tt, tt)) $ pass0 ! $
@@ -143,11 +143,11 @@ module _ {M : Type 1} (𝓤 : URA M) (H : Heap 𝓤) (A : Atoms 𝓤) (W : Given
 fordrambler-check-meets : {M : Type 1} (𝓤 : URA M) (H : Heap 𝓤) (A : Atoms 𝓤) → Given 𝓤 H A → (mem : Memory → SProp 𝓤) (run : Routine → Fun 𝓤) (𝓣 : Tables 𝓤 H) → Triple 𝓤 (𝓣 .C #fordrambler·check) (Check 𝓤 H A mem run) → Triple 𝓤 (𝓣 .C #fordrambler_c·tell) (Tell 𝓤 H A mem run)
     → Meets 𝓤 H A f.signature (WpFn 𝓤 H (𝓣 .C) (𝓣 .Λ) code.function) (f.spec 𝓤 H A mem run)
 fordrambler-check-meets 𝓤 H A W mem run 𝓣 known-call known-tell =
-    walk-meets 𝓤 H A f.ended stayed W (goes-none-slice 𝓤 H A W 3 (0 ∷ []) tt (plain (λ _. u8)) yes, (goes-gave-slice 𝓤 H A W 3 1 tt (plain (λ _. R)), (goes-gave-ref 𝓤 H A W 3 2 tt (plain (λ _. u32)), tt))) (f.clauses 𝓤 H A mem run)
+    walk-meets 𝓤 H A f.ended stayed W (goes-none-slice 𝓤 H A W 3 (0 ∷ []) tt (plain (λ _. u8)) yes, (goes-gave-slice 𝓤 H A W 3 1 tt (plain (λ _. R)), (goes-gave-ref 𝓤 H A W 3 2 tt (plain (λ _. usize)), tt))) (f.clauses 𝓤 H A mem run)
     (WpFn 𝓤 H (𝓣 .C) (𝓣 .Λ) code.function) (WpFn-mono 𝓤 H (W .laws) 𝓣 code.function)
     (walked 𝓤 H A f.ended stayed (f.clauses 𝓤 H A mem run) (WpFn 𝓤 H (𝓣 .C) (𝓣 .Λ) code.function)
     (λ κs. (slice-vals, (slice-vals, (ptr-vals, tt))))
-    (λ κs. (shr-slice-tells (named 0) (κs .0) u8, (mut-slice-tells (named 1) (κs .1 .0) R, (mut-tells (named 2) (κs .1 .1 .0) u32, tt))))
+    (λ κs. (shr-slice-tells (named 0) (κs .0) u8, (mut-slice-tells (named 1) (κs .1 .0) R, (mut-tells (named 2) (κs .1 .1 .0) usize, tt))))
     (λ κs qs bounds a g are. via 𝓤 _ (fst∗ 𝓤 _ (emp 𝓤))
     (walk 𝓤 H A W mem run (κs .0) (κs .1 .0) (κs .1 .1 .0) (qs .0) (qs .1 .0) (qs .1 .1 .0) (a .0) (a .1 .0) (a .1 .1 .0) (𝓣 .C) (𝓣 .Λ) (fmOf 𝓤 H (W .laws) 𝓣) known-call known-tell (are .0 .0 .1) (are .1 .0 .0 .1))))
 

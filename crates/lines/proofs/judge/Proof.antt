@@ -68,6 +68,9 @@ part-begins-line-end c = search needs
 begins-line-requires : tie.Need-begins-line-requires Inv-loop μ-loop
 begins-line-requires c κs = search needs
 
+cast-t16 : tie.Need-cast-t16 Inv-loop μ-loop
+cast-t16 c = search needs
+
 returns-3 : tie.Need-returns-3 Inv-loop μ-loop
 returns-3 c =
     let t = c .before .before .before .before .before .before .before .before in
@@ -128,6 +131,7 @@ judge-spec =
     part-begins-line-start
     part-begins-line-end
     begins-line-requires
+    cast-t16
     returns-3
     add-at
     add-rows

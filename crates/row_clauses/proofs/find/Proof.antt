@@ -19,8 +19,8 @@ returns c =
     let e = c .refused .ensures in
     (e ∙ refuses (s .args .table .now) (s .args .room) (s .args .row) (v .survey .ensures .0) (c .before .if1 .taken), rw e (omega arith))
 
-cast-if2 : tie.Need-cast-if2
-cast-if2 c = search needs
+cast-needed : tie.Need-cast-needed
+cast-needed c = search needs
 
 refused-requires-2 : tie.Need-refused-requires-2
 refused-requires-2 c κs = search needs
@@ -28,23 +28,20 @@ refused-requires-2 c κs = search needs
 returns-2 : tie.Need-returns-2
 returns-2 c =
     let k = c .before in
-    let n = k .before .before .before in
+    let n = k .before .before in
     let v = n .before .before in
     let s = v .before .before in
     let e = c .refused2 .ensures in
     (e ∙ short (s .args .table .now) (s .args .room) (s .args .row) (v .survey .ensures .0) (n .if1 .left) (k .if2 .taken), rw e (omega arith))
-
-cast-refused : tie.Need-cast-refused
-cast-refused c = search needs
 
 refused-requires-3 : tie.Need-refused-requires-3
 refused-requires-3 c κs = search needs
 
 returns-3 : tie.Need-returns-3
 returns-3 c =
-    let k = c .before .before in
+    let k = c .before in
     let l = k .before .before in
-    let n = l .before .before .before in
+    let n = l .before .before in
     let v = n .before .before in
     let s = v .before .before in
     let e = c .refused3 .ensures in
@@ -59,14 +56,14 @@ array-copy-out-own c = search needs
 cast-t10 : tie.Need-cast-t10
 cast-t10 c = search needs
 
-cast-t15 : tie.Need-cast-t15
-cast-t15 c = search needs
+cast-t14 : tie.Need-cast-t14
+cast-t14 c = search needs
 
 returns-4 : tie.Need-returns-4
 returns-4 c =
     let k = c .before .before .before .before in
     let l = k .before .before in
-    let n = l .before .before .before in
+    let n = l .before .before in
     let v = n .before .before in
     let s = v .before .before in
     found (s .args .table .now) (s .args .room) (s .args .row) (v .survey .ensures .0) (n .if1 .left) (l .if2 .left) (k .if3 .left)
@@ -78,14 +75,13 @@ find-spec =
     survey-requires
     refused-requires
     returns
-    cast-if2
+    cast-needed
     refused-requires-2
     returns-2
-    cast-refused
     refused-requires-3
     returns-3
     mul-own
     array-copy-out-own
     cast-t10
-    cast-t15
+    cast-t14
     returns-4)

@@ -27,9 +27,6 @@ mul-record c = search needs
 array-copy-out-record : tie.Need-array-copy-out-record
 array-copy-out-record c = search needs
 
-cast-refused : tie.Need-cast-refused
-cast-refused c = search needs
-
 refused-requires : tie.Need-refused-requires
 refused-requires c κs = search needs
 
@@ -59,7 +56,6 @@ ending-spec =
     sub-last
     mul-record
     array-copy-out-record
-    cast-refused
     refused-requires
     returns
     plus-requires

@@ -166,9 +166,6 @@ enum-told c = search needs
 number-of-verdict-requires : tie.Need-number-of-verdict-requires Inv-loop μ-loop
 number-of-verdict-requires c κs = search needs
 
-cast-refused : tie.Need-cast-refused Inv-loop μ-loop
-cast-refused c = omega (arith, small (turn (found (c .before .before .before))))
-
 refused-requires-2 : tie.Need-refused-requires-2 Inv-loop μ-loop
 refused-requires-2 c κs = search needs
 
@@ -265,7 +262,6 @@ survey-spec =
     enum-known-verdict
     enum-told
     number-of-verdict-requires
-    cast-refused
     refused-requires-2
     returns-2
     mul-records

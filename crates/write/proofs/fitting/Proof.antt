@@ -21,9 +21,6 @@ returns c =
 places-requires : tie.Need-places-requires
 places-requires c κs = search needs
 
-cast-refused : tie.Need-cast-refused
-cast-refused c = search needs
-
 refused-requires : tie.Need-refused-requires
 refused-requires c κs = search needs
 
@@ -39,8 +36,8 @@ returns-2 c =
     let (sheet, is, f) = was-accepted (checking (s .args .table .now) (s .args .records)) (v .check-core .ensures .0) (checking-numbered (s .args .table .now) (s .args .records)) (n .if1 .left) in
     (rw (is, lt-ltb _ _ (rw (p .places .ensures, f) at (l .if2 .taken))) (rw (p .places .ensures, f) at value), bounds)
 
-cast-if3 : tie.Need-cast-if3
-cast-if3 c = search needs
+cast-needed : tie.Need-cast-needed
+cast-needed c = search needs
 
 refused-requires-2 : tie.Need-refused-requires-2
 refused-requires-2 c κs = search needs
@@ -49,7 +46,7 @@ returns-3 : tie.Need-returns-3
 unfolding writing
 returns-3 c =
     let k = c .before in
-    let l = k .before .before .before in
+    let l = k .before .before in
     let p = l .before in
     let n = p .before in
     let v = n .before .before in
@@ -61,7 +58,7 @@ returns-3 c =
 returns-4 : tie.Need-returns-4
 unfolding writing
 returns-4 c =
-    let l = c .before .before .before in
+    let l = c .before .before in
     let p = l .before in
     let n = p .before in
     let v = n .before .before in
@@ -77,10 +74,9 @@ fitting-spec =
     check-core-requires
     returns
     places-requires
-    cast-refused
     refused-requires
     returns-2
-    cast-if3
+    cast-needed
     refused-requires-2
     returns-3
     returns-4)
