@@ -11,7 +11,7 @@ use lib.ListN.{drop, length-append, length-map}
 use lib.Seq.{take-all, drop-at}
 use Rattle.whole.specs.Bits.{bit}
 use Rattle.circuit.specs.Literals.{Clause, Assignment, allTrue}
-use Rattle.sheet.specs.Values.{rowValues, Within}
+use Rattle.sheet.specs.Values.{rowValues, Chosen}
 use Rattle.sheet.specs.Acceptance.{accepted, Sheet, accept}
 use Rattle.sheet.specs.Steps.{extension}
 use Rattle.sheet.specs.Calls.{modelOf, constraint}
@@ -63,7 +63,7 @@ module _ (table : List ℕ) (sheet : Sheet) (h : Bytes table) (e : accept table 
   clauses-are = rw (lines-uncut, table-read n table rows few false, sheet-is (linesOf n table) [] (sym (append-nil (linesOf n table))))
 
   -- ---- the settings
-  module _ (values : List ℤ) (within : Within (sheet .rows) values) (holds : constraint sheet values ≡ true) where
+  module _ (values : List ℤ) (chosen : Chosen (sheet .rows) values) (holds : constraint sheet values ≡ true) where
     abbrev s : Assignment
     s = extension (sheet .rows) values
 
@@ -77,7 +77,7 @@ module _ (table : List ℕ) (sheet : Sheet) (h : Bytes table) (e : accept table 
     settings = settingLines 0 (sheet .rows) (rowValues (sheet .rows) values)
 
     promised : Promise sheet values
-    promised = demand-three table sheet e values within
+    promised = demand-three table sheet e values chosen
 
     behind : drop (17 * n + 1) input ≡ modelText bytes
     behind = drop-at (linesOf n table ++ ascii "\n") (modelText bytes) (17 * n + 1) (length-append (linesOf n table) (ascii "\n") ∙ omega (arith, table-long n table rows))
@@ -86,7 +86,7 @@ module _ (table : List ℕ) (sheet : Sheet) (h : Bytes table) (e : accept table 
     claim-is = ap (λ (k : ℕ). claimIn k (modelText bytes)) (sym (length-map s bit ∙ promised .one .sized)) ∙ printed-accepted bytes (bits-are s)
 
     settled-is : settled settingsTold sheet (model bytes) ≡ accepted settings
-    settled-is = rw (bits-back s, extension-passes table sheet e values within holds, promised .rows s (promised .one))
+    settled-is = rw (bits-back s, extension-passes table sheet e values chosen holds, promised .rows s (promised .one))
 
     settings-are : settingsProgram input ≡ settings
     unfolding reply
@@ -101,9 +101,9 @@ pub clauses-read-back : ClausesReadBack
 clauses-read-back table sheet h e fits = ap readDimacs (clauses-are table sheet h e fits) ∙ dimacs-read-back table sheet e
 
 pub printed-none-exists : PrintedNoneExists
-printed-none-exists table sheet h e fits variables cs read none values within =
+printed-none-exists table sheet h e fits variables cs read none values chosen =
     let same = Option·some-injective _ _ (sym (clauses-read-back table sheet h e fits) ∙ read) in
-    none-exists table sheet e (λ s l. ap (λ (r : ℕ × List Clause). allTrue s (r .1)) same ∙ none s (l ∙ ap (λ (r : ℕ × List Clause). r .0) same)) values within
+    none-exists table sheet e (λ s l. ap (λ (r : ℕ × List Clause). allTrue s (r .1)) same ∙ none s (l ∙ ap (λ (r : ℕ × List Clause). r .0) same)) values chosen
 
 pub printed-none-lost : PrintedNoneLost
 printed-none-lost = settings-are
