@@ -36,7 +36,7 @@ use Rattle.setting_lines.specs.Settings.{tablePieces}
 use Rattle.setting_lines.proofs.Settings.{settings-joined}
 use Rattle.setting_lines.proofs.Rows.{pieces-many, piece-fits}
 use Rattle.settings_text.specs.Replies.{Told, toldBy, toldText}
-use Rattle.settings_text.proofs.Variables.{taken-accepted}
+use Rattle.settings_text.proofs.Taking.{taken-accepted}
 
 few-unknowns : (rows : List Fields) → length (unknowns rows) ≤ length rows
 few-unknowns [] = omega arith
