@@ -57,7 +57,7 @@ module _ (table : List ℕ) (values l : List ℤ) where
 
     module _ (h : s .rows ≤ length l) where
       pub evaluable : Evaluable table (s .rows) (s .records) values (length l)
-      evaluable = record { table-is = accepted-table; within = choosing-tells table values (a .is) .1; fits = h }
+      evaluable = record { table-is = accepted-table; chosen = choosing-tells table values (a .is) .1; fits = h }
 
       pub evaluated : {results : List ℤ} → results ≡ front (map numerator (rowValues (rowsOf (s .rows) table) values)) l → Answered outcome values l (accepted tt) results
       unfolding evaluating

@@ -76,7 +76,7 @@ filling-none {table} {rows} {values = values} ok = record {
   within = omega arith;
   many = refl;
   hold = tt;
-  inside = within-all (rowsOf rows table) values (subst (λ (fs : List Fields). Within fs values) (all-read (ok .table-is)) (ok .within));
+  inside = within-all (rowsOf rows table) values (subst (λ (fs : List Fields). Within fs values) (all-read (ok .table-is)) (ok .chosen .within));
   taken = omega arith;
   same = refl;
   done = refl;

@@ -13,7 +13,7 @@ use Rattle.whole.specs.Bits.{bit}
 use Rattle.whole.proofs.Tests.{bit-true}
 use Rattle.sheet.specs.declared.Extended.the-variants.{Constraint, Refused}
 use Rattle.sheet.specs.Rows.{rowsOf}
-use Rattle.sheet.specs.Values.{boolean, numerator, valueAt, rowValues, Within}
+use Rattle.sheet.specs.Values.{boolean, numerator, valueAt, rowValues, Chosen}
 use Rattle.sheet.specs.Acceptance.{Outcome, refused, accepted, Sheet, accept}
 use Rattle.sheet.specs.Steps.{extension}
 use Rattle.sheet.specs.Calls.{choosing, extending, modelOf, constraint}
@@ -66,8 +66,8 @@ module _ (table : List ℕ) (values : List ℤ) (model₀ : List ℕ) where
     abbrev is : accept table ≡ accepted (a .sheet)
     is = choosing-tells table values (a .is) .0
 
-    abbrev within : Within (a .sheet .rows) values
-    within = choosing-tells table values (a .is) .1
+    abbrev chosen : Chosen (a .sheet .rows) values
+    chosen = choosing-tells table values (a .is) .1
 
     abbrev ok : Accepted table (s .rows) (s .records)
     ok = known is (a .same)
@@ -78,7 +78,7 @@ module _ (table : List ℕ) (values : List ℤ) (model₀ : List ℕ) where
     -- the bits that are put are the paper's assignment
     bits-are : modelBits (s .rows) table (s .records) values ≡ extension (a .sheet .rows) values
     unfolding modelBits
-    bits-are = rw (ok .held, ← rows-read) (sym (extension-traced table (a .sheet) is values within))
+    bits-are = rw (ok .held, ← rows-read) (sym (extension-traced table (a .sheet) is values chosen))
 
     pub some : 1 ≤ s .rows
     some = omega (arith, ok .many, tells ok .some)
@@ -100,7 +100,7 @@ module _ (table : List ℕ) (values : List ℤ) (model₀ : List ℕ) where
       extendable = record {
         evaluable = evaluable table values results a room;
         computed = rw (← rows-read) (ap (take (s .rows)) as-computed ∙ take-at (map numerator (rowValues (a .sheet .rows) values)) _ (s .rows) long);
-        room = omega (arith, h, ap (λ (t : Survey). t .counts .variables) (a .same), ap length bits-are, demand-three table (a .sheet) is values within .one .sized);
+        room = omega (arith, h, ap (λ (t : Survey). t .counts .variables) (a .same), ap length bits-are, demand-three table (a .sheet) is values chosen .one .sized);
       }
 
       pub extended : {b : Bool} {model₁ : List ℕ} → b ≡ eqZ (getD results (s .rows - 1) (pos 0)) (pos 1) → model₁ ≡ front (map bit (modelBits (s .rows) table (s .records) values)) model₀
@@ -114,6 +114,6 @@ module _ (table : List ℕ) (values : List ℤ) (model₀ : List ℕ) where
           = ap (λ (r : List ℤ). getD r (s .rows - 1) (pos 0)) as-computed ∙ List·getD-append (map numerator vs) _ (pos 0) (s .rows - 1) (omega (arith, long, some))
           ∙ List·getD-map numerator vs (s .rows - 1) (boolean false) ∙ ap (λ (i : ℕ). numerator (valueAt vs (i - 1))) n in
           record {
-            says = ap accepted (f ∙ ap (λ (z : ℤ). eqZ z (pos 1)) (last ∙ last-numerator table (a .sheet) is values within) ∙ bit-true (constraint (a .sheet) values)) ∙ rw o;
+            says = ap accepted (f ∙ ap (λ (z : ℤ). eqZ z (pos 1)) (last ∙ last-numerator table (a .sheet) is values chosen) ∙ bit-true (constraint (a .sheet) values)) ∙ rw o;
             model = g ∙ ap (λ (bs : List Bool). front (map bit bs) model₀) bits-are ∙ left-accepted (modelOf values) model₀ o;
           }

@@ -94,7 +94,7 @@ module _ (table : List ℕ) (rows : ℕ) (records : List Record) (results values
         ahead = all-ahead known;
         earlier = [];
         hold = tt;
-        inside = within-all all values (subst (λ (fs : List Fields). Within fs values) (all-read known) (ok .evaluable .within));
+        inside = within-all all values (subst (λ (fs : List Fields). Within fs values) (all-read known) (ok .evaluable .chosen .within));
         same = refl;
         left = rw (sym (known .held)) (left-all room);
       }

@@ -17,7 +17,7 @@ use Rattle.sheet.specs.Texts.{ascii, decimal, signed, slotText, slotTexts, dima
 use Rattle.print.specs.Put.{Put}
 use Rattle.print.specs.Pages.{joined, fitting, pageText}
 use Rattle.print.specs.Pieces.{pairLine, dimacsPieces, DimacsPages}
-use Rattle.print.proofs.Decimals.{length-decimal, length-signed}
+use Rattle.sheet.proofs.Decimals.{length-decimal, length-signed}
 use Rattle.print.proofs.Pages.{all-pages}
 
 -- ---- a text that is one piece

@@ -15,7 +15,7 @@ use Rattle.sheet.specs.declared.Measured.the-variants.{Counted}
 use Rattle.sheet.specs.declared.Answer.{Answer}
 use Rattle.sheet.specs.declared.Answer.the-variants.{Done}
 use Rattle.sheet.specs.declared.Extended.the-variants.{Constraint}
-use Rattle.sheet.specs.Values.{unknowns, Within}
+use Rattle.sheet.specs.Values.{unknowns, Chosen}
 use Rattle.sheet.specs.Acceptance.{Outcome, accepted, Sheet, accept}
 use Rattle.sheet.specs.Steps.{settings, extension}
 use Rattle.sheet.specs.Calls.{rowCount, checking, writing, choosing, extending, decoding, left, modelOf, settingsOf, constraint}
@@ -39,15 +39,15 @@ measured table sheet e = record { says = rw e }
 
 -- ---- what a call tells that is done
 
--- extending has told a truth: of an accepted table and values within their bits, whose model it wrote
+-- extending has told a truth: of an accepted table and chosen values, whose model it wrote
 pub record Told (table : List ℕ) (values : List ℤ) (b : Bool) (model₁ : List ℕ) : Type 0 where
   pub sheet : Sheet
   pub isSheet : accept table ≡ accepted sheet
-  pub within : Within (sheet .rows) values
+  pub chosen : Chosen (sheet .rows) values
   pub truth-is : constraint sheet values ≡ b
   pub model-is : take (sheet .counts .variables) model₁ ≡ modelOf values sheet
 
-extending-tells : (table : List ℕ) (values : List ℤ) (room : ℕ) (sheet : Sheet) → extending table values room ≡ accepted sheet → (accept table ≡ accepted sheet) × Within (sheet .rows) values
+extending-tells : (table : List ℕ) (values : List ℤ) (room : ℕ) (sheet : Sheet) → extending table values room ≡ accepted sheet → (accept table ≡ accepted sheet) × Chosen (sheet .rows) values
 unfolding extending
 extending-tells table values room sheet e =
     let (a, chooses, rest) = bound-accepts (choosing table values) e in
@@ -57,13 +57,13 @@ extending-tells table values room sheet e =
 pub extends-tells : (table : List ℕ) (values : List ℤ) (model₀ model₁ : List ℕ) (b : Bool) → Extends table values model₀ (Constraint b) model₁ → Told table values b model₁
 extends-tells table values model₀ model₁ b x =
     let (sheet, o, t) = bound-accepts (extending table values (length model₀)) (sym (x .says)) in
-    let (e, within) = extending-tells table values (length model₀) sheet o in
-    let one = demand-three table sheet e values within .one in
+    let (e, chosen) = extending-tells table values (length model₀) sheet o in
+    let one = demand-three table sheet e values chosen .one in
     let long : length (modelOf values sheet) ≡ sheet .counts .variables = length-map (extension (sheet .rows) values) bit ∙ one .sized in
     record {
       sheet = sheet;
       isSheet = e;
-      within = within;
+      chosen = chosen;
       truth-is = same-accepted t;
       model-is = ap (take (sheet .counts .variables)) (x .model) ∙ written-front sheet (modelOf values) (sheet .counts .variables) long (extending table values (length model₀)) o model₀;
     }
@@ -77,8 +77,8 @@ module _ (table : List ℕ) (records₀ records₁ : List Record) (map₀ map₁
   settled : (sheet : Sheet) → outcome ≡ accepted sheet → take (sheet .counts .unknowns) values₁ ≡ settingsOf model sheet
   settled sheet o =
       let e = decoding-tells table (length records₀) (length map₀) (length slots₀) model (length values₀) sheet o .0 .isSheet in
-      let within = settings-meet-the-sheet table (length records₀) (length map₀) (length slots₀) model (length values₀) sheet o .0 in
-      ap (take (sheet .counts .unknowns)) (d .values) ∙ written-front sheet (settingsOf model) (sheet .counts .unknowns) (within .number ∙ sym (counts-are-made table sheet e .unknown)) outcome o values₀
+      let chosen = settings-meet-the-sheet table (length records₀) (length map₀) (length slots₀) model (length values₀) sheet o .0 in
+      ap (take (sheet .counts .unknowns)) (d .values) ∙ written-front sheet (settingsOf model) (sheet .counts .unknowns) (chosen .within .number ∙ sym (counts-are-made table sheet e .unknown)) outcome o values₀
 
 pub writes : (table : List ℕ) (sheet : Sheet) → accept table ≡ accepted sheet → (records map slots : ℕ) → rowCount sheet ≤ records → 48 * rowCount sheet ≤ map → sheet .counts .slots ≤ slots
     → writing table records map slots ≡ accepted sheet
@@ -96,8 +96,8 @@ decoded-meet-the-sheet table records₀ records₁ map₀ map₁ slots₀ slots�
     let o = decoding table (length records₀) (length map₀) (length slots₀) model (length values₀) in
     let (sheet, is, _) = then-accepts o (sym (d .says)) in
     let e = decoding-tells table (length records₀) (length map₀) (length slots₀) model (length values₀) sheet is .0 .isSheet in
-    let (within, holds) = settings-meet-the-sheet table (length records₀) (length map₀) (length slots₀) model (length values₀) sheet is in
-    let t : EvaluatesTo true table (settingsOf model sheet) = subst (λ (b : Bool). EvaluatesTo b table (settingsOf model sheet)) holds (evaluated table sheet e (settingsOf model sheet) within) in
+    let (chosen, holds) = settings-meet-the-sheet table (length records₀) (length map₀) (length slots₀) model (length values₀) sheet is in
+    let t : EvaluatesTo true table (settingsOf model sheet) = subst (λ (b : Bool). EvaluatesTo b table (settingsOf model sheet)) holds (evaluated table sheet e (settingsOf model sheet) chosen) in
     (sheet .counts, measured table sheet e, subst (λ (vs : List ℤ). EvaluatesTo true table vs) (sym (settled table records₀ records₁ map₀ map₁ slots₀ slots₁ model values₀ values₁ Done d sheet is)) t)
 
 pub extended-decodes-back : ExtendedDecodesBack
@@ -105,7 +105,7 @@ extended-decodes-back table values model₀ model₁ b x =
     let t = extends-tells table values model₀ model₁ b x in
     let sheet = t .sheet in
     let model = take (sheet .counts .variables) model₁ in
-    let back = demand-three table sheet (t .isSheet) values (t .within) .one .reads in (
+    let back = demand-three table sheet (t .isSheet) values (t .chosen) .one .reads in (
       sheet .counts,
       measured table sheet (t .isSheet),
       λ records₀ records₁ map₀ map₁ slots₀ slots₁ values₀ values₁ d.
@@ -128,7 +128,7 @@ extended-not-lost table values model₀ model₁ x =
       measured table sheet (t .isSheet),
       λ records₀ records₁ map₀ map₁ slots₀ slots₁ values₀ values₁ answer room d.
           let written = writes table sheet (t .isSheet) (length records₀) (length map₀) (length slots₀) (omega (arith, room .recordRoom)) (omega (arith, room .mapRoom)) (room .slotRoom) in
-          let (o, back) = none-lost table (length records₀) (length map₀) (length slots₀) (length values₀) sheet written (omega (arith, room .valueRoom)) values (t .within) (t .truth-is) in
+          let (o, back) = none-lost table (length records₀) (length map₀) (length slots₀) (length values₀) sheet written (omega (arith, room .valueRoom)) values (t .chosen) (t .truth-is) in
           let is = subst (λ (m : List ℕ). decoding table (length records₀) (length map₀) (length slots₀) m (length values₀) ≡ accepted sheet) (sym (t .model-is)) o in (
             is-done (decoding table (length records₀) (length map₀) (length slots₀) model (length values₀)) sheet is (d .says),
             settled table records₀ records₁ map₀ map₁ slots₀ slots₁ model values₀ values₁ answer d sheet is ∙ ap (λ (m : List ℕ). settingsOf m sheet) (t .model-is) ∙ back,
@@ -138,4 +138,4 @@ extended-not-lost table values model₀ model₁ x =
 pub extended-as-evaluated : ExtendedAsEvaluated
 extended-as-evaluated table values model₀ model₁ b x =
     let t = extends-tells table values model₀ model₁ b x in
-    subst (λ (c : Bool). EvaluatesTo c table values) (t .truth-is) (evaluated table (t .sheet) (t .isSheet) values (t .within))
+    subst (λ (c : Bool). EvaluatesTo c table values) (t .truth-is) (evaluated table (t .sheet) (t .isSheet) values (t .chosen))

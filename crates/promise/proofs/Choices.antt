@@ -142,13 +142,13 @@ Ranged [] = Unit {0}
 Ranged (f ∷ rows) = (outOfRange (uses (f .kind)) (f .p) (f .x) (f .z) ≡ false) × Ranged rows
 
 -- values that bits are the bits of
-pub record Chosen (rows : List Fields) (vs : List ℤ) (l : List Bool) : Type 0 where
+pub record FromBits (rows : List Fields) (vs : List ℤ) (l : List Bool) : Type 0 where
   pub number : Enough rows vs
   pub inside : AllIn rows vs
   pub bits : unknownBits rows vs ≡ l
 
 -- any bits are the bits of the values read from them
-pub read-all : (rows : List Fields) (l : List Bool) → Ranged rows → length l ≡ allAsked rows → Chosen rows (readAll rows l) l
+pub read-all : (rows : List Fields) (l : List Bool) → Ranged rows → length l ≡ allAsked rows → FromBits rows (readAll rows l) l
 read-all [] [] o h = record { number = refl; inside = tt; bits = refl }
 read-all [] (b ∷ l) o h = absurd (omega arith)
 read-all (f ∷ rows) l o h = by (isUnknown u) refl (read-all rows (drop (bitsAsked u (f .p)) l) (o .1) (length-drop (bitsAsked u (f .p)) l ∙ omega arith))
@@ -159,7 +159,7 @@ read-all (f ∷ rows) l o h = by (isUnknown u) refl (read-all rows (drop (bitsAs
     ws : List ℤ
     ws = readAll rows (drop (bitsAsked u (f .p)) l)
 
-    by : (b : Bool) → isUnknown u ≡ b → Chosen rows ws (drop (bitsAsked u (f .p)) l) → Chosen (f ∷ rows) (if b then readBits u (f .p) l ∷ ws else ws) l
+    by : (b : Bool) → isUnknown u ≡ b → FromBits rows ws (drop (bitsAsked u (f .p)) l) → FromBits (f ∷ rows) (if b then readBits u (f .p) l ∷ ws else ws) l
     by true e c =
         let (here, bits) = read-row u (f .p) (f .x) (f .z) l (o .0) (omega arith) e in
         record {

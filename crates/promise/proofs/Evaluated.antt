@@ -1,4 +1,4 @@
--- What evaluating leaves of values within their bits: in the last row's place the constraint's truth. Assumes nothing.
+-- What evaluating leaves of chosen values: in the last row's place the constraint's truth. Assumes nothing.
 use mathlib.Core.Path.{_≡_, refl, sym, _∙_, ap}
 use mathlib.Core.Bool.{false, not, false≢true}
 use mathlib.Core.List.{List, [], _∷_, _++_, map}
@@ -14,7 +14,7 @@ use Rattle.sheet.specs.declared.Fields.{Fields}
 use Rattle.sheet.specs.declared.Record.{Record}
 use Rattle.sheet.specs.declared.Answer.{Answer}
 use Rattle.sheet.specs.declared.Answer.the-variants.{Done}
-use Rattle.sheet.specs.Values.{Value, boolean, fraction, truthOf, numerator, valueAt, rowVal, valuesFrom, rowValues, unknowns, eachInBits, Within}
+use Rattle.sheet.specs.Values.{Value, boolean, fraction, truthOf, numerator, valueAt, rowVal, valuesFrom, rowValues, unknowns, eachInBits, Chosen}
 use Rattle.sheet.specs.Acceptance.{Outcome, accepted, recordAt, Sheet, accept}
 use Rattle.sheet.specs.Calls.{falseAt, rowCount, unknownCount, choosing, evaluating, left, constraint, said, done}
 use Rattle.sheet.proofs.Accepted.{accepted-tells}
@@ -45,22 +45,22 @@ truth-numerator : (r : Record) (v : Value) → Holds r v → eqb (r .sort) 1 ≡
 truth-numerator r (boolean b) h e = refl
 truth-numerator r (fraction n d) h e = absurd (false≢true (sym (rw (h .sort) at e)))
 
-module _ (table : List ℕ) (sheet : Sheet) (e : accept table ≡ accepted sheet) (values : List ℤ) (within : Within (sheet .rows) values) where
+module _ (table : List ℕ) (sheet : Sheet) (e : accept table ≡ accepted sheet) (values : List ℤ) (chosen : Chosen (sheet .rows) values) where
   pub last-numerator : numerator (valueAt (rowValues (sheet .rows) values) (length (sheet .rows) - 1)) ≡ pos (bit (constraint sheet values))
   unfolding constraint rowValues
   last-numerator =
       let k = known table sheet e in
       let vs = rowValues (sheet .rows) values in
       let i = length (sheet .rows) - 1 in
-      let h = table-fits (sheet .rows) [] [] tt theFirst (sheet .records) (k .total) (k .passed) values (within-all (sheet .rows) values within) in
+      let h = table-fits (sheet .rows) [] [] tt theFirst (sheet .records) (k .total) (k .passed) values (within-all (sheet .rows) values (chosen .within)) in
       truth-numerator (recordAt (sheet .records) i) (valueAt vs i) (hold-at (sheet .records) vs h i) (k .ends)
 
   evaluation : (room : ℕ) → rowCount sheet ≤ room → evaluating table values room ≡ accepted sheet
   unfolding evaluating choosing
   evaluation room h =
       let bs = eachInBits (unknowns (sheet .rows)) values in
-      let t₁₄ : not (eqb (length values) (unknownCount sheet)) ≡ false = ap not (eq-eqb (length values) (unknownCount sheet) (within .number)) in
-      let t₁₅ : ltb (falseAt 0 bs) (0 + length bs) ≡ false = first-false 0 bs ∙ ap not (within .inside) in
+      let t₁₄ : not (eqb (length values) (unknownCount sheet)) ≡ false = ap not (eq-eqb (length values) (unknownCount sheet) (chosen .within .number)) in
+      let t₁₅ : ltb (falseAt 0 bs) (0 + length bs) ≡ false = first-false 0 bs ∙ ap not (chosen .within .inside) in
       let t₁₈ : ltb room (rowCount sheet) ≡ false = le-ltb room (rowCount sheet) h in
       rw (e, t₁₄, t₁₅, t₁₈)
 

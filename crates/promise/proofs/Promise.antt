@@ -1,4 +1,4 @@
--- Demand 3, for every accepted table and all values within their declared bits. Assumes nothing.
+-- Demand 3, for every accepted table and all chosen values. Assumes nothing.
 use mathlib.Core.Path.{_≡_, sym, _∙_, ap, subst}
 use mathlib.Core.Bool.{true, false, or-false, false≢true}
 use mathlib.Core.List.{List, [], _∷_, _++_}
@@ -15,7 +15,7 @@ use Rattle.circuit.proofs.Wellformed.{count}
 use Rattle.circuit.proofs.Assignments.{holds-of, of-holds, frees, unique, run-length, run-frees, run-holds}
 use Rattle.sheet.specs.declared.Fields.{Fields}
 use Rattle.sheet.specs.declared.Record.{Record}
-use Rattle.sheet.specs.Values.{Value, boolean, fraction, truthOf, valueAt, rowValues, Within}
+use Rattle.sheet.specs.Values.{Value, boolean, fraction, truthOf, valueAt, rowValues, Chosen}
 use Rattle.sheet.specs.Acceptance.{recordAt, accepted, Sheet, accept}
 use Rattle.sheet.specs.Steps.{Cell, cellAt, lit, steps, cells, clausesButLast, lastClause, settings, unknownBits, extension}
 use Rattle.sheet.specs.Calls.{constraint}
@@ -23,7 +23,7 @@ use Rattle.sheet.proofs.Accepted.{Passed, passed-many, accepted-tells}
 use Rattle.sheet.proofs.Meant.{Shows, ShowAll, show-at}
 use Rattle.promise.specs.Promise.{Carries, Promise, DemandThree}
 use Rattle.sheet.proofs.Total.{Whole, whole-table}
-use Rattle.promise.proofs.Choices.{AllIn, within-all, all-within, all-bits-many, Ranged, Chosen}
+use Rattle.promise.proofs.Choices.{AllIn, within-all, all-within, all-bits-many, Ranged, FromBits}
 use Rattle.promise.proofs.Readings.{Reading, carried, model-carries}
 use Rattle.promise.proofs.Fitting.{all-wide}
 
@@ -63,11 +63,11 @@ known table sheet e =
 module _ (sheet : Sheet) (k : Known sheet) where
   -- any assignment that meets every clause but the last carries the values that its unknowns read as
   pub model-tells : (s : Assignment) → allTrue s (clausesButLast (sheet .rows)) ≡ true
-      → Chosen (sheet .rows) (settings sheet s) (frees s 0 (gates 0 (steps (sheet .rows)))) × Reading sheet (k .total) (k .passed) (k .whole) s (settings sheet s)
+      → FromBits (sheet .rows) (settings sheet s) (frees s 0 (gates 0 (steps (sheet .rows)))) × Reading sheet (k .total) (k .passed) (k .whole) s (settings sheet s)
   model-tells s m = model-carries sheet (k .total) (k .passed) (k .whole) s (k .ranged) m
 
-  pub model-within : (s : Assignment) → allTrue s (clausesButLast (sheet .rows)) ≡ true → Within (sheet .rows) (settings sheet s)
-  model-within s m = let c = model-tells s m .0 in all-within (sheet .rows) (settings sheet s) (c .number) (c .inside)
+  pub model-chosen : (s : Assignment) → allTrue s (clausesButLast (sheet .rows)) ≡ true → Chosen (sheet .rows) (settings sheet s)
+  model-chosen s m = let c = model-tells s m .0 in record { within = all-within (sheet .rows) (settings sheet s) (c .number) (c .inside) }
 
   -- the last clause, under an assignment in which every row shows its value
   last-shown : (s : Assignment) → litTrue s truth ≡ true → (values : List ℤ) → ShowAll s (sheet .records) (cells (sheet .rows)) (rowValues (sheet .rows) values)
@@ -83,9 +83,9 @@ module _ (sheet : Sheet) (k : Known sheet) where
   unfolding clausesButLast steps
   model-last s m = last-shown s (holds-of s 0 (gates 0 (steps (sheet .rows))) m .0) (settings sheet s) (model-tells s m .1 .shows)
 
-  module _ (values : List ℤ) (within : Within (sheet .rows) values) where
+  module _ (values : List ℤ) (chosen : Chosen (sheet .rows) values) where
     inside : AllIn (sheet .rows) values
-    inside = within-all (sheet .rows) values within
+    inside = within-all (sheet .rows) values (chosen .within)
 
     bits-enough : length (unknownBits (sheet .rows) values) ≡ count (gates 0 (steps (sheet .rows)))
     bits-enough = all-bits-many (sheet .rows) values ∙ sym (k .whole .asked)
@@ -99,7 +99,7 @@ module _ (sheet : Sheet) (k : Known sheet) where
         record {
           sized = run-length [] gs bits ∙ k .variables;
           meets = of-holds (run [] gs bits) 0 gs h;
-          reads = carried sheet (k .total) (k .passed) (k .whole) (run [] gs bits) values (within .number) inside h (run-frees [] gs bits bits-enough) .settled;
+          reads = carried sheet (k .total) (k .passed) (k .whole) (run [] gs bits) values (chosen .within .number) inside h (run-frees [] gs bits bits-enough) .settled;
         }
 
     alone : (s : Assignment) → Carries sheet values s → s ≡ extension (sheet .rows) values
@@ -120,4 +120,4 @@ module _ (sheet : Sheet) (k : Known sheet) where
 
 -- demand 3
 pub demand-three : DemandThree
-demand-three table sheet e values within = promise-of sheet (known table sheet e) values within
+demand-three table sheet e values chosen = promise-of sheet (known table sheet e) values chosen

@@ -21,7 +21,7 @@ use Rattle.sheet.proofs.Accepted.{Passed}
 use Rattle.sheet.proofs.Counted.{CellsFor}
 use Rattle.sheet.proofs.Meant.{Shows, ShowAll, show-snoc, row-sem}
 use Rattle.sheet.proofs.Total.{Whole}
-use Rattle.promise.proofs.Choices.{first, after, AllIn, Enough, Ranged, Chosen, readAll, read-all, values-new, chosen-found}
+use Rattle.promise.proofs.Choices.{first, after, AllIn, Enough, Ranged, FromBits, readAll, read-all, values-new, chosen-found}
 
 table-sem : (s : Assignment) → litTrue s truth ≡ true → (l : List Bool) (rows : List Fields) (rs : List Record) (cs : List Cell) (vs : List Value) → ShowAll s rs cs vs
     → (so : Counts) (records : List Record) (total : Counts) → Passed rs so rows records total → (values : List ℤ) → AllIn rows values
@@ -74,10 +74,10 @@ module _ (sheet : Sheet) (total : Counts) (p : Passed [] theFirst (sheet .rows) 
 
   -- any assignment that meets every clause but the last carries the values that its unknowns read as
   pub model-carries : (s : Assignment) → Ranged (sheet .rows) → allTrue s (clausesButLast (sheet .rows)) ≡ true
-      → Chosen (sheet .rows) (settings sheet s) (frees s 0 (gates 0 (steps (sheet .rows)))) × Reading s (settings sheet s)
+      → FromBits (sheet .rows) (settings sheet s) (frees s 0 (gates 0 (steps (sheet .rows)))) × Reading s (settings sheet s)
   unfolding clausesButLast
   model-carries s o m =
       let l = frees s 0 (gates 0 (steps (sheet .rows))) in
       let c = read-all (sheet .rows) l o (frees-length s 0 (gates 0 (steps (sheet .rows))) ∙ w .asked) in
       let r = carried s (readAll (sheet .rows) l) (c .number) (c .inside) (holds-of s 0 (gates 0 (steps (sheet .rows))) m) (sym (c .bits)) in
-      subst (λ (values : List ℤ). Chosen (sheet .rows) values l × Reading s values) (sym (r .settled)) (c, r)
+      subst (λ (values : List ℤ). FromBits (sheet .rows) values l × Reading s values) (sym (r .settled)) (c, r)

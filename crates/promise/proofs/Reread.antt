@@ -14,7 +14,7 @@ use Rattle.circuit.specs.Counting.{theFirst}
 use Rattle.sheet.specs.declared.Fields.{Fields}
 use Rattle.sheet.specs.declared.Record.{Record}
 use Rattle.sheet.specs.Rows.{uses, isUnknown}
-use Rattle.sheet.specs.Values.{Value, boolean, fraction, numerator, denominator, rowValues, Within}
+use Rattle.sheet.specs.Values.{Value, boolean, fraction, numerator, denominator, rowValues, Chosen}
 use Rattle.sheet.specs.Steps.{ofUnknowns}
 use Rattle.sheet.specs.Texts.{ascii, decimal, signed, settingLines, valueLine}
 use Rattle.sheet.specs.Dimacs.{integer}
@@ -99,8 +99,8 @@ printed-tells-the-values table sheet e vs ws h k same =
     is : Known sheet
     is = known table sheet e
 
-    found : (values : List ℤ) → Within (sheet .rows) values → ofUnknowns (sheet .rows) (rowValues (sheet .rows) values) ≡ values
-    found values w = ap (ofUnknowns (sheet .rows)) (values-new (sheet .rows) [] values) ∙ chosen-found (sheet .rows) [] values (w .number) (within-all (sheet .rows) values w)
+    found : (values : List ℤ) → Chosen (sheet .rows) values → ofUnknowns (sheet .rows) (rowValues (sheet .rows) values) ≡ values
+    found values c = ap (ofUnknowns (sheet .rows)) (values-new (sheet .rows) [] values) ∙ chosen-found (sheet .rows) [] values (c .within .number) (within-all (sheet .rows) values (c .within))
 
-    holds : (values : List ℤ) → Within (sheet .rows) values → AllHold (sheet .records) (rowValues (sheet .rows) values)
-    holds values w = table-fits (sheet .rows) [] [] tt theFirst (sheet .records) (is .total) (is .passed) values (within-all (sheet .rows) values w)
+    holds : (values : List ℤ) → Chosen (sheet .rows) values → AllHold (sheet .records) (rowValues (sheet .rows) values)
+    holds values c = table-fits (sheet .rows) [] [] tt theFirst (sheet .records) (is .total) (is .passed) values (within-all (sheet .rows) values (c .within))

@@ -13,7 +13,7 @@ use Rattle.sheet.specs.declared.Kind.{Kind}
 use Rattle.sheet.specs.declared.Kind.the-variants.{BooleanConstant, BooleanUnknown, NaturalUnknown, IntegerUnknown, NumberConstant, Not, And, Or, Implies, Iff, Sum, Difference, Product, Choice, Greater, Equal}
 use Rattle.sheet.specs.declared.Fields.{Fields}
 use Rattle.sheet.specs.declared.Record.{Record}
-use Rattle.sheet.specs.Values.{Value, boolean, fraction, valueAt, shared, over, rowValues, unknowns, Within}
+use Rattle.sheet.specs.Values.{Value, boolean, fraction, valueAt, shared, over, rowValues, unknowns, Chosen}
 use Rattle.sheet.specs.Acceptance.{meeting, widthOver, recordAt, accepted, Sheet, accept}
 use Rattle.sheet.specs.Steps.{Cell, brought, cellAt, rowSteps, steps, cells, clausesButLast, lastClause, clauses, slotsFor, mapFor, readRows, settings, extension}
 use Rattle.sheet.specs.Calls.{unknownCount, writing, decoding, modelOf, settingsOf, constraint, part}
@@ -60,7 +60,7 @@ pub record Wide (sheet : Sheet) (values : List Value) (i : ℕ) (f : Fields) : T
   pub own : FitsRow (recordAt (sheet .records) i) (valueAt values i)
   pub expanded : FitBoth (sheet .records) values (broughtBy (f .kind) (f .x) (f .y) (f .z))
 
--- demand 3, for values within their declared bits
+-- demand 3, for chosen values
 pub record Promise (sheet : Sheet) (values : List ℤ) : Type 0 where
   -- no row's exact value, nor any expanded numerator, needs more bits than it was given
   pub wide : (before : List Fields) (f : Fields) (after : List Fields) → sheet .rows ≡ before ++ f ∷ after
@@ -74,30 +74,30 @@ pub record Promise (sheet : Sheet) (values : List ℤ) : Type 0 where
   pub last : (s : Assignment) → Carries sheet values s → clauseTrue s (lastClause (sheet .rows)) ≡ constraint sheet values
 
 abbrev pub DemandThree : Type 0
-DemandThree = (table : List ℕ) (sheet : Sheet) → accept table ≡ accepted sheet → (values : List ℤ) → Within (sheet .rows) values → Promise sheet values
+DemandThree = (table : List ℕ) (sheet : Sheet) → accept table ≡ accepted sheet → (values : List ℤ) → Chosen (sheet .rows) values → Promise sheet values
 
 -- "when the tool prints timings, what shows that they meet the sheet?" If decoding accepts a model, the values that it gives are
--- within their declared bits, and the constraint is true of them
+-- chosen values, each within its declared bits, and the constraint is true of them
 abbrev pub SettingsMeetTheSheet : Type 0
 SettingsMeetTheSheet =
     (table : List ℕ) (recordRoom mapRoom slotRoom : ℕ) (model : List ℕ) (valueRoom : ℕ) (sheet : Sheet)
     → decoding table recordRoom mapRoom slotRoom model valueRoom ≡ accepted sheet
-    → Within (sheet .rows) (settingsOf model sheet) × (constraint sheet (settingsOf model sheet) ≡ true)
+    → Chosen (sheet .rows) (settingsOf model sheet) × (constraint sheet (settingsOf model sheet) ≡ true)
 
--- "when it finds none at those widths, what shows that none was lost on the way to the solver?" If values within their declared
--- bits make the constraint true, decoding accepts the model that extending gives, and gives these values
+-- "when it finds none at those widths, what shows that none was lost on the way to the solver?" If chosen values make the
+-- constraint true, decoding accepts the model that extending gives, and gives these values
 abbrev pub NoneLost : Type 0
 NoneLost =
     (table : List ℕ) (recordRoom mapRoom slotRoom valueRoom : ℕ) (sheet : Sheet) → writing table recordRoom mapRoom slotRoom ≡ accepted sheet → unknownCount sheet ≤ valueRoom
-    → (values : List ℤ) → Within (sheet .rows) values → constraint sheet values ≡ true
+    → (values : List ℤ) → Chosen (sheet .rows) values → constraint sheet values ≡ true
     → (decoding table recordRoom mapRoom slotRoom (modelOf values sheet) valueRoom ≡ accepted sheet) × (settingsOf (modelOf values sheet) sheet ≡ values)
 
--- so where no assignment makes every clause true, no values within their declared bits make the constraint true
+-- so where no assignment makes every clause true, no chosen values make the constraint true
 abbrev pub NoneExists : Type 0
 NoneExists =
     (table : List ℕ) (sheet : Sheet) → accept table ≡ accepted sheet
     → ((s : Assignment) → length s ≡ sheet .counts .variables → allTrue s (clauses (sheet .rows)) ≡ false)
-    → (values : List ℤ) → Within (sheet .rows) values → constraint sheet values ≡ false
+    → (values : List ℤ) → Chosen (sheet .rows) values → constraint sheet values ≡ false
 
 -- two numbers brought to one denominator
 abbrev pub bothBrought : (a b : Cell) → Circuit (List Lit × List Lit)

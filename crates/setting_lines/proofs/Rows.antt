@@ -19,7 +19,7 @@ use Rattle.sheet.specs.Texts.{decimal, signed}
 use Rattle.row.specs.RowAt.{rowAt}
 use Rattle.unknown.specs.Unknowns.{readsUnknown}
 use Rattle.unknown.proofs.Taken.{bit-most}
-use Rattle.print.proofs.Decimals.{length-decimal, length-signed}
+use Rattle.sheet.proofs.Decimals.{length-decimal, length-signed}
 use Rattle.setting_lines.specs.Settings.{settingLine, settingPiece, settingPieces, unknownsIn}
 
 -- ---- a line, and a row's piece

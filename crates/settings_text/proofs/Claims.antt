@@ -19,9 +19,10 @@ use Rattle.sheet.specs.Texts.{ascii, refusedLine, Claim, model, variableText, s
 use Rattle.sheet.proofs.Called.{giving-refuses}
 use Rattle.table.proofs.Answers.{left-accepted}
 use Rattle.assign.specs.Model.{areBits}
-use Rattle.solver_text.proofs.Answers.{answer-none, told, model-claimed}
+use Rattle.sheet.proofs.Models.{told, model-claimed}
+use Rattle.solver_text.proofs.Answers.{answer-none}
 use Rattle.settings_text.specs.Replies.{Taken, Told, toldText, claimText}
-use Rattle.settings_text.proofs.Variables.{taken-few}
+use Rattle.settings_text.proofs.Taking.{taken-few}
 
 -- ---- the bytes that the signs tell
 

@@ -12,7 +12,7 @@ use lib.Seq.{take-at}
 use Rattle.whole.specs.Tests.{if_then_else_}
 use Rattle.sheet.specs.declared.Fields.{Fields}
 use Rattle.sheet.specs.Rows.{uses, isUnknown, rowsOf}
-use Rattle.sheet.specs.Values.{rowValues, unknowns, Within}
+use Rattle.sheet.specs.Values.{rowValues, unknowns, Chosen}
 use Rattle.sheet.specs.Acceptance.{Outcome, refused, accepted, Sheet, accept}
 use Rattle.sheet.specs.Steps.{clauses, settings}
 use Rattle.sheet.specs.Calls.{_>>_, refuse_counting_unless_, falseAt, unknownCount, assigned, decodable, decoding, left, settingsOf}
@@ -36,7 +36,7 @@ use Rattle.setting_lines.specs.Settings.{tablePieces}
 use Rattle.setting_lines.proofs.Settings.{settings-joined}
 use Rattle.setting_lines.proofs.Rows.{pieces-many, piece-fits}
 use Rattle.settings_text.specs.Replies.{Told, toldBy, toldText}
-use Rattle.settings_text.proofs.Variables.{taken-accepted}
+use Rattle.settings_text.proofs.Taking.{taken-accepted}
 
 few-unknowns : (rows : List Fields) → length (unknowns rows) ≤ length rows
 few-unknowns [] = omega arith
@@ -127,13 +127,13 @@ module _ (all : Bool) (table bytes : List ℕ) (t : Told table bytes) (map₀ sl
         abbrev told : List ℤ
         told = settings sheet (assigned bytes)
 
-        within : Within (sheet .rows) told
-        within = settings-meet-the-sheet table 256 (length map₀) (length slots₀) bytes (length values₀) sheet done .0
+        chosen : Chosen (sheet .rows) told
+        chosen = settings-meet-the-sheet table 256 (length map₀) (length slots₀) bytes (length values₀) sheet done .0
 
         same : take (s .counts .unknowns) values ≡ told
         same =
             ap (take (s .counts .unknowns)) (f ∙ sym (left-accepted (settingsOf bytes) values₀ done))
-            ∙ take-at told (drop (length told) values₀) (s .counts .unknowns) (within .number ∙ sym unknowns-are)
+            ∙ take-at told (drop (length told) values₀) (s .counts .unknowns) (chosen .within .number ∙ sym unknowns-are)
 
         text-told : {b : Bool} → all ≡ b → toldText all table bytes ≡ toldBy b sheet (assigned bytes)
         text-told h = text-is passes ∙ ap (λ (b : Bool). toldBy b sheet (assigned bytes)) h
@@ -145,7 +145,7 @@ module _ (all : Bool) (table bytes : List ℕ) (t : Told table bytes) (map₀ sl
         surveyed = rw (could-is, done) at e
 
         pub evaluable : Evaluable table (s .rows) (s .records) (take (s .counts .unknowns) values) 256
-        evaluable = record { table-is = known is surveyed; within = rw same within; fits = few-rows (known is surveyed) }
+        evaluable = record { table-is = known is surveyed; chosen = rw same chosen; fits = few-rows (known is surveyed) }
 
         pub values-printed : all ≡ true → toldText all table bytes ≡ valueLines (rowValues (rowsOf (s .rows) table) (take (s .counts .unknowns) values))
         values-printed h = text-told h ∙ rw (same, ← all-read (known is surveyed))

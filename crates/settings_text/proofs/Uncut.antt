@@ -1,57 +1,27 @@
 -- The cut at 65,536 bytes changes no answer: the lines end within 4,353 bytes, and a table has fewer than 10,000 variables, so that the text
 -- that claims a model of it ends within 60,100 more. Assumes nothing.
 use mathlib.Core.Path.{_≡_, refl, sym, ap, _∙_}
-use mathlib.Core.Bool.{Bool, true, false, _&&_}
-use mathlib.Core.List.{List, [], _∷_, _++_}
-use Prim.Native.Nat.{ℕ, zero, suc, _+_, _*_, _-_, _/_, _≤_, _<_}
+use mathlib.Core.Bool.{Bool, true, _&&_}
+use mathlib.Core.List.{List, [], _∷_}
+use Prim.Native.Nat.{ℕ, zero, suc, _+_, _*_, _-_, _≤_, _<_}
 use native.Mathlib.Decide.{decLt}
 use native.Mathlib.Omega.{arith}
 use borrow.Author.Tests.{ne-eqb}
 use lib.Dec.{eqb}
-use lib.ListN.{length, take, drop, length-append}
+use lib.ListN.{length, take, drop}
 use lib.Seq.{length-take-le, take-all}
-use Rattle.whole.specs.Tests.{if_then_else_}
 use Rattle.circuit.specs.Literals.{Assignment}
 use Rattle.sheet.specs.declared.LinesFound.{LinesFound}
 use Rattle.sheet.specs.Acceptance.{Outcome, refused, accepted, Sheet}
 use Rattle.sheet.specs.Calls.{_>>=_}
-use Rattle.sheet.specs.Texts.{ascii, decimal, satisfiable, unsatisfiable, variableText, variableTexts, modelLine, signAt, signsIn, starts, readLines, claimIn}
+use Rattle.sheet.specs.Texts.{satisfiable, unsatisfiable, variableText, modelLine, signAt, signsIn, starts, readLines, claimIn}
 use Rattle.sheet.specs.Programs.{inputOf, sheetIn, printed, settled, reply, settingsTold, valuesTold, settingsProgram, valuesProgram}
-use Rattle.print.proofs.Decimals.{length-one, length-more}
+use Rattle.sheet.proofs.Models.{variable-short, variables-short}
 use Rattle.program.proofs.Cut.{drop-cut, read-cut, found-cut}
 use Rattle.settings_text.specs.Uncut.{Uncut, ValuesUncut}
-use Rattle.settings_text.proofs.Variables.{taken-few}
+use Rattle.settings_text.proofs.Taking.{taken-few}
 use Rattle.settings_text.proofs.Behind.{read-near}
 use Rattle.settings_text.proofs.Claims.{signs-many}
-
--- ---- how long a model's line is
-
-one-digit-more : (m d : ℕ) → m < 10000 → 0 < d → ((n : ℕ) → n < m → length (decimal n) ≤ d) → (n : ℕ) → n < 10 * m → length (decimal n) ≤ d + 1
-one-digit-more m d few some h n k = by (decLt n 10)
-  where
-    by : Dec (n < 10) → length (decimal n) ≤ d + 1
-    by (yes q) = omega (arith, length-one n q)
-    by (no q) = omega (arith, length-more n (omega arith) (omega arith), h (n / 10) (omega arith))
-
-four-digits : (n : ℕ) → n < 10000 → length (decimal n) ≤ 4
-four-digits n h =
-    let two = one-digit-more 10 1 (omega arith) (omega arith) (λ i q. omega (arith, length-one i q)) in
-    let three = one-digit-more 100 2 (omega arith) (omega arith) two in
-    one-digit-more 1000 3 (omega arith) (omega arith) three n h
-
-variable-short : (b k : ℕ) → k < 10000 → length (variableText b k) ≤ 6
-unfolding variableText
-variable-short b k h = by (eqb b 0)
-  where
-    by : (t : Bool) → length ((if t then ascii "-" else []) ++ decimal k ++ ascii " ") ≤ 6
-    by true = omega (arith, length-append (decimal k) (ascii " "), four-digits k h)
-    by false = omega (arith, length-append (decimal k) (ascii " "), four-digits k h)
-
-variables-short : (bs : List ℕ) (k : ℕ) → k + length bs ≤ 10000 → length (variableTexts bs k) ≤ 6 * length bs + 2
-unfolding variableTexts
-variables-short [] k h = omega arith
-variables-short (b ∷ bs) k h =
-    rw (length-append (variableText b k) (variableTexts bs (k + 1))) (omega (arith, variable-short b k (omega arith), variables-short bs (k + 1) (omega arith)))
 
 -- ---- a text and its first k bytes
 

@@ -33,7 +33,7 @@ module _ {table : List ℕ} {rows : ℕ} {records : List Record} {values : List 
       let sheet = e .table-is .sheet in
       let is = tells (e .table-is) in
       let many = rows-many (sheet .rows) values ∙ sym (counts-are-made table sheet (e .table-is .is) .records) ∙ e .table-is .many in
-      rw (← f) (many, table-fits (sheet .rows) [] [] tt theFirst (sheet .records) (is .total) (is .passed) values (within-all (sheet .rows) values (e .within)))
+      rw (← f) (many, table-fits (sheet .rows) [] [] tt theFirst (sheet .records) (is .total) (is .passed) values (within-all (sheet .rows) values (e .chosen .within)))
 
   -- what evaluating leaves at the front of the results
   pub numerators-many : length (map numerator vs) ≡ rows

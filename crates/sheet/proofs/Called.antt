@@ -9,7 +9,7 @@ use lib.Dec.{eqb, ltb}
 use lib.ListN.{length}
 use lib.IntN.{ℤ}
 use Rattle.circuit.specs.Literals.{Assignment, Clause, clauseTrue, allTrue}
-use Rattle.sheet.specs.Values.{unknowns, eachInBits, every, Within}
+use Rattle.sheet.specs.Values.{unknowns, eachInBits, every, Chosen}
 use Rattle.sheet.specs.Acceptance.{Outcome, refused, accepted, Sheet, accept}
 use Rattle.sheet.specs.Calls.{_>>=_, _>>_, _giving_, refuse_at_if_, falseAt, rowCount, unknownCount, checking, writing, choosing}
 
@@ -73,8 +73,8 @@ pub every-clause : (s : Assignment) (cs : List Clause) → every (map (clauseTru
 every-clause s [] = refl
 every-clause s (c ∷ cs) = ap (λ (b : Bool). clauseTrue s c && b) (every-clause s cs)
 
--- values that a table is chosen with are within their bits
-pub choosing-tells : (table : List ℕ) (values : List ℤ) {sheet : Sheet} → choosing table values ≡ accepted sheet → (accept table ≡ accepted sheet) × Within (sheet .rows) values
+-- values that pass the refusals of chosen values are chosen
+pub choosing-tells : (table : List ℕ) (values : List ℤ) {sheet : Sheet} → choosing table values ≡ accepted sheet → (accept table ≡ accepted sheet) × Chosen (sheet .rows) values
 unfolding choosing
 choosing-tells table values {sheet} e =
     let (a, accepts, rest) = bound-accepts (accept table) e in
@@ -83,4 +83,4 @@ choosing-tells table values {sheet} e =
     let bs = eachInBits (unknowns (a .rows)) values in
     let (inside, same) = not-refused 15 (falseAt 0 bs) (ltb (falseAt 0 bs) (0 + length bs)) rest₁ in
     let all : every bs ≡ true = not-false (every bs) (sym (first-false 0 bs) ∙ inside) in
-    (accepts ∙ same, subst (λ (x : Sheet). Within (x .rows) values) (same-accepted same) (record { number = eqb-true (length values) many (not-false (eqb (length values) many) number); inside = all }))
+    (accepts ∙ same, subst (λ (x : Sheet). Chosen (x .rows) values) (same-accepted same) (record { within = record { number = eqb-true (length values) many (not-false (eqb (length values) many) number); inside = all } }))

@@ -1,7 +1,7 @@
--- What is proved of these definitions: values are those of fractions, and a table in print is read back. Assumes nothing.
+-- What is proved of these definitions: values are those of fractions, and a table or a model in print is read back. Assumes nothing.
 use mathlib.Core.Path.{_≡_}
 use mathlib.Core.Bool.{Bool, true, false}
-use mathlib.Core.List.{List, _++_}
+use mathlib.Core.List.{List, [], _∷_, _++_}
 use Prim.Native.Nat.{ℕ, _+_, _*_, _≤_, _<_, _∣_}
 use lib.ListN.{length}
 use lib.IntN.{ℤ, pos, _+ℤ_, _-ℤ_, _*ℤ_}
@@ -9,7 +9,8 @@ use lib.Signed.{ltZ}
 use Rattle.whole.specs.Tests.{if_then_else_, eqZ}
 use Rattle.sheet.specs.declared.Kind.the-variants.{Sum, Difference, Product, Choice, Greater, Equal}
 use Rattle.sheet.specs.Values.{Value, fraction, truthOf, numerator, denominator, over, valueBy}
-use Rattle.sheet.specs.Texts.{ascii, Bytes, linesOf, tableIn, lines, readLines}
+use Rattle.sheet.specs.Acceptance.{accepted}
+use Rattle.sheet.specs.Texts.{ascii, Bytes, linesOf, tableIn, lines, readLines, model, modelText, claimIn}
 
 -- v is the fraction n / d, by cross-multiplying
 pub record IsFraction (v : Value) (n : ℤ) (d : ℕ) : Type 0 where
@@ -68,3 +69,16 @@ TableEnded =
 -- .. and the bytes that its lines spell are its own
 abbrev pub TableBytes : Type 0
 TableBytes = (rest : List ℕ) (n : ℕ) (table : List ℕ) → Rows n table → tableIn n (linesOf n table ++ rest) ≡ table
+
+-- a text that is read as a model is the model's text ..
+abbrev pub AcceptedPrinted : Type 0
+AcceptedPrinted = (variables : ℕ) (text bytes : List ℕ) → claimIn variables text ≡ accepted (model bytes) → text ≡ modelText bytes
+
+-- every byte is 0 or 1
+abbrev pub Bits : List ℕ → Type 0
+Bits [] = Unit {0}
+Bits (b ∷ bs) = (b ≤ 1) × Bits bs
+
+-- .. and the text of a model is read as the model
+abbrev pub PrintedAccepted : Type 0
+PrintedAccepted = (bytes : List ℕ) → Bits bytes → claimIn (length bytes) (modelText bytes) ≡ accepted (model bytes)

@@ -100,3 +100,7 @@ every (b ∷ bs) = b && every bs
 pub record Within (rows : List Fields) (vs : List ℤ) : Type 0 where
   pub number : length vs ≡ length (unknowns rows)
   pub inside : every (eachInBits (unknowns rows) vs) ≡ true
+
+-- chosen values, the one premise of all that is promised of values: what evaluating and extending take, and what decoding gives
+pub record Chosen (rows : List Fields) (vs : List ℤ) : Type 0 where
+  pub within : Within rows vs

@@ -3,4 +3,3 @@ pub mod Passing
 pub mod Variables
 pub mod Claims
 pub mod Answers
-pub mod Printed

@@ -1,3 +1,2 @@
 -- What the reader of the solver's text promises step by step. Assumes nothing.
 pub mod Passing
-pub mod Printed

@@ -44,7 +44,7 @@ table-traced s et l (f ∷ rows) rs cs vs h g so records total p values a =
 
 pub extension-traced : ExtensionTraced
 unfolding extension steps traces
-extension-traced table sheet e values within =
+extension-traced table sheet e values chosen =
     let k = known table sheet e in
     let gs = gates 0 (steps (sheet .rows)) in
     let bits = unknownBits (sheet .rows) values in
@@ -53,5 +53,5 @@ extension-traced table sheet e values within =
     let h = run-holds [] gs bits (k .whole .formed) enough in
     let held : Tracing s (frees s 0 gs ++ []) (steps (sheet .rows)) [] (traces (sheet .records) (sheet .rows) values) (λ out. Unit {0})
     = rw (run-frees [] gs bits enough)
-    (trace-new refl (λ t et. table-traced s (h .0) [] (sheet .rows) [] [] [] tt tt theFirst (sheet .records) (k .total) (k .passed) values (within-all (sheet .rows) values within))) in
+    (trace-new refl (λ t et. table-traced s (h .0) [] (sheet .rows) [] [] [] tt tt theFirst (sheet .records) (k .total) (k .passed) values (within-all (sheet .rows) values (chosen .within)))) in
     trace-sound 0 [] held h (omega (arith, run-length [] gs bits))

@@ -15,7 +15,7 @@ use Rattle.sheet.specs.declared.Kind.the-variants.{BooleanConstant, BooleanUnkn
 use Rattle.sheet.specs.declared.Fields.{Fields}
 use Rattle.sheet.specs.declared.Record.{Record}
 use Rattle.sheet.specs.Rows.{uses, isUnknown}
-use Rattle.sheet.specs.Values.{Value, truthOf, numerator, over, valueAt, rowVal, Within}
+use Rattle.sheet.specs.Values.{Value, truthOf, numerator, over, valueAt, rowVal, Chosen}
 use Rattle.sheet.specs.Acceptance.{meeting, larger, recordAt, accepted, Sheet, accept}
 use Rattle.sheet.specs.Steps.{extension}
 
@@ -98,5 +98,5 @@ traces rs rows vs = true ∷ tracesFrom rs [] rows vs
 -- which is the paper's one assignment that extends chosen values
 abbrev pub ExtensionTraced : Type 0
 ExtensionTraced =
-    (table : List ℕ) (sheet : Sheet) → accept table ≡ accepted sheet → (values : List ℤ) → Within (sheet .rows) values
+    (table : List ℕ) (sheet : Sheet) → accept table ≡ accepted sheet → (values : List ℤ) → Chosen (sheet .rows) values
     → extension (sheet .rows) values ≡ traces (sheet .records) (sheet .rows) values

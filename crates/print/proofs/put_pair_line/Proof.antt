@@ -2,7 +2,7 @@
 use Prim.Native.Nat.{_≤_}
 use native.Mathlib.Omega.{arith}
 use lib.ListN.{length, length-append}
-use Rattle.print.proofs.Decimals.{length-decimal}
+use Rattle.sheet.proofs.Decimals.{length-decimal}
 use Rattle.print.proofs.Puts.{put-then}
 use Rattle.print.proofs.Pieces.{pair-parts}
 use borrow.Author.Needs.{needs}

@@ -3,7 +3,7 @@ use Prim.Native.Nat.{_≤_}
 use native.Mathlib.Omega.{arith}
 use lib.ListN.{length, length-append}
 use mir.Facts.{toZ-ofZ}
-use Rattle.print.proofs.Decimals.{length-decimal, length-signed}
+use Rattle.sheet.proofs.Decimals.{length-decimal, length-signed}
 use Rattle.print.proofs.Puts.{put-then}
 use Rattle.setting_lines.proofs.Rows.{setting-parts}
 use borrow.Author.Needs.{needs}

@@ -8,7 +8,7 @@ use lib.ListN.{length, replicate, length-replicate}
 use lib.Seq.{length-take-le}
 use Rattle.print.proofs.Pieces.{piece-whole}
 use Rattle.settings_text.specs.Replies.{claimText}
-use Rattle.settings_text.proofs.Variables.{taken-few}
+use Rattle.settings_text.proofs.Taking.{taken-few}
 use Rattle.settings_text.proofs.Claims.{refusal-printed, none-printed, model-told, model-printed}
 use Rattle.settings_text.proofs.print_claim.Statement.{statement}
 use Rattle.settings_text.proofs.print_claim.Tie as tie

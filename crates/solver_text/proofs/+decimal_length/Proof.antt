@@ -1,7 +1,7 @@
 -- `solver_text::decimal_length` meets its contract. Assumes nothing.
 use mathlib.Core.Path.{sym}
 use native.Mathlib.Omega.{arith}
-use Rattle.print.proofs.Decimals.{length-one, length-more, length-decimal}
+use Rattle.sheet.proofs.Decimals.{length-one, length-more, length-decimal}
 use Prim.Native.Nat.{ℕ, _/_, _<_}
 use borrow.Fn.Kinds.{In}
 use borrow.Fn.PlainCycle.{Measures, is, falls, and}

@@ -4,7 +4,7 @@ use mathlib.Core.List.{[], _∷_}
 use native.Mathlib.Omega.{arith}
 use borrow.Author.Needs.{needs}
 use Rattle.sheet.specs.Texts.{decimal}
-use Rattle.print.proofs.Decimals.{decimal-one, decimal-more}
+use Rattle.sheet.proofs.Decimals.{decimal-one, decimal-more}
 use Rattle.solver_text.proofs.Passing.{pass-then, pass-stops}
 use Prim.Native.Nat.{ℕ, _+_, _/_, _%_, _<_}
 use Rattle.solver_text.proofs.pass_byte.Reads as pass-byte-reads

@@ -1,6 +1,6 @@
 -- `solver_text::variable_length` meets its contract. Assumes nothing.
 use native.Mathlib.Omega.{arith}
-use Rattle.print.proofs.Decimals.{length-decimal}
+use Rattle.sheet.proofs.Decimals.{length-decimal}
 use Rattle.solver_text.proofs.Variables.{length-minus, length-plain}
 use borrow.Author.Needs.{needs}
 use Rattle.solver_text.proofs.variable_length.Statement.{statement}

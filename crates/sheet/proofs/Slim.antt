@@ -1,28 +1,25 @@
 -- A table whose slots fit has fewer than 10,000 variables: a variable that is no unknown's takes ten slots or more, and a row has at most
 -- 32 of an unknown. Assumes nothing.
-use mathlib.Core.Path.{_≡_, ap, _∙_, subst}
+use mathlib.Core.Path.{_≡_, ap}
 use mathlib.Core.Bool.{Bool, true, false}
 use mathlib.Core.List.{List, [], _∷_, _++_}
 use Prim.Native.Nat.{ℕ, zero, suc, _+_, _*_, _/_, _≤_, _<_}
 use native.Mathlib.Omega.{arith}
-use borrow.Author.Tests.{ltb-false}
-use lib.Dec.{eqb, ltb}
+use lib.Dec.{eqb}
 use lib.IntN.{pos}
 use lib.ListN.{length}
 use Rattle.whole.specs.Tests.{if_then_else_}
 use Rattle.whole.specs.Bits.{fewest}
 use Rattle.circuit.specs.declared.Counts.{Counts}
 use Rattle.circuit.specs.Counting.{_⊕_, nothing, aProduct, anExpansion, theFirst}
 use Rattle.sheet.specs.declared.Kind.{Kind}
 use Rattle.sheet.specs.declared.Kind.the-variants.{BooleanConstant, BooleanUnknown, NaturalUnknown, IntegerUnknown, NumberConstant, Not, And, Or, Implies, Iff, Sum, Difference, Product, Choice, Greater, Equal}
 use Rattle.sheet.specs.declared.Fields.{Fields}
 use Rattle.sheet.specs.declared.Record.{Record}
 use Rattle.sheet.specs.Rows.{uses}
 use Rattle.sheet.specs.Acceptance.{outside, outOfRange, meeting, bringing, planBy, recordAt, accepted, Sheet, accept}
 use Rattle.sheet.proofs.Accepted.{Passes, Passed, passed-many, accepted-tells}
 use Rattle.sheet.proofs.Tested.{neither, at-most}
-use Rattle.sheet.proofs.Called.{same-accepted, bound-accepts, not-refused}
-use Rattle.settings_text.specs.Replies.{Taken}
 
 -- ten slots or more a variable
 record Slim (k : Counts) : Type 0 where
@@ -82,16 +79,3 @@ variables-few table sheet e h =
     let l = ap (λ (k : Counts). k .slots) (a .counted) in
     let many = passed-many (sheet .rows) [] theFirst (sheet .records) (a .total) (a .passed) in
     omega (arith, rows-slim (sheet .rows) [] theFirst (sheet .records) (a .total) (a .passed), a .few)
-
--- a table that the program goes on with
-pub taken-accepted : {table : List ℕ} {n : ℕ} (t : Taken table n) → (accept table ≡ accepted (t .sheet)) × (t .sheet .counts .slots ≤ 16384)
-taken-accepted {table} t =
-    let (a, is, g) = bound-accepts (accept table) (t .is) in
-    let (fits, k) = not-refused 13 (a .counts .slots) (ltb 16384 (a .counts .slots)) g in
-    let s = same-accepted k in
-    (is ∙ k, subst (λ (b : Sheet). b .counts .slots ≤ 16384) s (ltb-false 16384 (a .counts .slots) fits))
-
-pub taken-few : {table : List ℕ} {n : ℕ} → Taken table n → n < 10000
-taken-few {table} t =
-    let (is, fits) = taken-accepted t in
-    omega (arith, t .many, variables-few table (t .sheet) is fits)
