@@ -1,4 +1,6 @@
 // The adder, written gate by gate: bits lowest first, each with its carry.
+#![tactic(auto)]
+
 ghost use Rattle.std.specs.Prelude.{◌≡◌, map, ◌++◌, ◌≤◌, ◌<◌, ◌+◌, length, take};
 ghost use Rattle.circuit.specs.Literals.{plus, slot};
 ghost use Rattle.circuit.specs.Circuits.{gates, out};
@@ -9,7 +11,7 @@ ghost use Rattle.adder.specs.Adding.{bit_gates, adding};
 
 use frame::{Made, Number};
 
-#[derive(Drop)]
+#[derive(Clone, Copy)]
 struct Bit {
     sum: i32,
     carry: i32,

@@ -1,4 +1,6 @@
 // Arithmetic on numerators. They fit the widths that acceptance gave them, 48 bits at most, so nothing here overflows and every answer is exact.
+#![tactic(auto)]
+
 ghost use Rattle.std.specs.Prelude.{◌≡◌, pos, ◌+ℤ◌, ◌-ℤ◌, ◌*ℤ◌};
 ghost use Rattle.std.specs.Int.Signed.{lt_z};
 ghost use Rattle.whole.specs.Tests.{if◌then◌else◌, eq_z};

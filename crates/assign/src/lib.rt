@@ -1,4 +1,6 @@
 // A model's bytes as an assignment: the value of a literal, and the first clause that the model makes false.
+#![tactic(auto)]
+
 ghost use Rattle.std.specs.Prelude.{◌≡◌, ◌<◌, length};
 ghost use Rattle.sheet.specs.Calls.{false_at};
 ghost use Rattle.assign.specs.Model.{are_bits, value, LitOf, SlotOf, AllSlotOf};
@@ -6,7 +8,7 @@ ghost use Rattle.assign.specs.Clauses.{clauses_in, truths, first_false, turned};
 
 // What one slot does to a scan of the slots: it goes on, in the clause of this number, from 1, of which a true literal was met
 // or not; or a clause has ended without one.
-#[derive(Drop)]
+#[derive(Clone, Copy)]
 pub enum Turn {
     On(usize, bool),
     False,

@@ -1,4 +1,6 @@
 // Numbers read from their literals under a model, in two's complement.
+#![tactic(auto)]
+
 ghost use Rattle.std.specs.Prelude.{◌≡◌, pos, neg_ℤ, ◌+ℤ◌, ◌*ℤ◌, length, take};
 ghost use Rattle.whole.specs.Bits.{bit, to_int, Fits};
 ghost use Rattle.sheet.specs.Values.{numerator};

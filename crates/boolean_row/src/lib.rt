@@ -1,4 +1,6 @@
 // Boolean rows: a constant, an unknown, and the connectives. Each has one literal.
+#![tactic(auto)]
+
 ghost use Rattle.std.specs.Prelude.{◌≡◌, [], ◌∷◌, ◌<◌, eqb};
 ghost use Rattle.circuit.specs.Literals.{neg, known, slot};
 ghost use Rattle.circuit.specs.Gates.{free, and, xor};

@@ -1,5 +1,6 @@
 // Runs the settings program's function on document 01's examples and on a text for each refusal that the program can give. For each its
 // name, and in the lines behind it what the program writes. The file stdout has what the document and its rules say.
+#![tactic(auto)]
 
 fn show(name: &[u8], text: &[u8]) {
     let mut out = [0u8; 16448];

@@ -1,6 +1,8 @@
 // Runs the examples of document 01 that are run and not proved, as far as checking and measuring go. One line an example: its name,
 // what checking answers (a row's width and denominator, or the refusal) and what measuring answers (variables, clauses and slots, or
 // the refusal). The file stdout has what the document and its rules say.
+#![tactic(auto)]
+
 use sheet::Measured;
 
 fn write_pair(words: &[u8], a: u32, b: usize) {

@@ -1,4 +1,6 @@
 // Choice, written gate by gate: one MUX a bit.
+#![tactic(auto)]
+
 ghost use Rattle.std.specs.Prelude.{◌≡◌, map, ◌≤◌, take};
 ghost use Rattle.circuit.specs.Literals.{slot};
 ghost use Rattle.circuit.specs.Circuits.{gates, out};

@@ -1,4 +1,6 @@
 // Values for the unknowns of a table: refusals 14 and 15, behind those of the table itself.
+#![tactic(auto)]
+
 ghost use Rattle.std.specs.Prelude.{◌≡◌};
 ghost use Rattle.sheet.specs.Rows.{rows_of};
 ghost use Rattle.sheet.specs.Values.{unknowns, each_in_bits};

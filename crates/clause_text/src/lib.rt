@@ -1,4 +1,6 @@
 // The clause program's output as a function of its input: the DIMACS text of the table in the lines, or the line of a refusal.
+#![tactic(auto)]
+
 ghost use Rattle.std.specs.Prelude.{◌≡◌, false, ◌+◌, ◌*◌, ◌≤◌, length};
 ghost use Rattle.frame.specs.Frame.{front};
 ghost use Rattle.sheet.specs.Calls.{◌giving◌, left, sheet_slots, counted};

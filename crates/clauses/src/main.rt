@@ -1,5 +1,7 @@
 // The clause program: reads a table's lines from standard input and writes its clauses as DIMACS text to standard output, or the
 // line of a refusal. All between reading and writing is `clause_text`.
+#![tactic(auto)]
+
 ghost use Rattle.std.specs.Prelude.{◌≡◌, length};
 ghost use Rattle.sheet.specs.Programs.{clause_program};
 ghost use Rattle.standard_input.specs.Reads.{bytes, IsWhole};

@@ -1,4 +1,6 @@
 // Greater and equal, written gate by gate, bits lowest first.
+#![tactic(auto)]
+
 ghost use Rattle.std.specs.Prelude.{◌≡◌, ◌≤◌, ◌<◌, ◌+◌, length};
 ghost use Rattle.circuit.specs.Literals.{plus, slot};
 ghost use Rattle.circuit.specs.Circuits.{gates, out};

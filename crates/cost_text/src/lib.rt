@@ -1,5 +1,7 @@
 // The costs program's output as a function of its input: how many slots each row of the table in the lines takes, or the line of a
 // refusal.
+#![tactic(auto)]
+
 ghost use Rattle.std.specs.Prelude.{◌≡◌, ◌≤◌, length};
 ghost use Rattle.frame.specs.Frame.{front};
 ghost use Rattle.sheet.specs.Programs.{costs_program};

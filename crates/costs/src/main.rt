@@ -1,5 +1,7 @@
 // The costs program: reads a table's lines from standard input and writes how many slots each row takes to standard output, or the line
 // of a refusal. All between reading and writing is `cost_text`.
+#![tactic(auto)]
+
 ghost use Rattle.std.specs.Prelude.{◌≡◌, length};
 ghost use Rattle.sheet.specs.Programs.{costs_program};
 ghost use Rattle.standard_input.specs.Reads.{bytes, IsWhole};

@@ -1,4 +1,6 @@
 // What rows count: variables, clauses and slots of parts together, of bits that count alike, of a product and of an expansion.
+#![tactic(auto)]
+
 ghost use Rattle.std.specs.Prelude.{◌≡◌, ◌≤◌, ◌+◌};
 ghost use Rattle.circuit.specs.Counting as Counting;
 ghost use Rattle.counting.specs.Bounds.{Below};

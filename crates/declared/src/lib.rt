@@ -1,4 +1,6 @@
 // Refusal 15: whether a value chosen for an unknown is within its declared bits.
+#![tactic(auto)]
+
 ghost use Rattle.std.specs.Prelude.{◌≡◌, ◌≤◌, ◌^◌, pos};
 ghost use Rattle.sheet.specs.Rows.{a_boolean, a_natural, an_integer, uses};
 ghost use Rattle.sheet.specs.Values.{in_bits};

@@ -1,5 +1,7 @@
 // Decoding: a model of a table's clauses back to the settings of its unknowns. Refusals 1 to 13 and 16 to 18 are decided before
 // anything is written, 19 over the slots that were written, and only then are the settings written.
+#![tactic(auto)]
+
 ghost use Rattle.std.specs.Prelude.{◌≡◌, ◌+◌, length};
 ghost use Rattle.sheet.specs.Acceptance.{accept};
 ghost use Rattle.sheet.specs.Calls as Calls;

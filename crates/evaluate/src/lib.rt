@@ -1,4 +1,6 @@
 // Evaluating: every row's numerator at chosen values, and refusal 18.
+#![tactic(auto)]
+
 ghost use Rattle.std.specs.Prelude.{◌≡◌, map, length};
 ghost use Rattle.sheet.specs.Rows.{rows_of};
 ghost use Rattle.sheet.specs.Values.{numerator, row_values};

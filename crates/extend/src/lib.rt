@@ -1,5 +1,7 @@
 // What each gate holds, from exact numbers, put into a model's bytes: 0 or 1, a byte a gate, in order of making. Every function puts from
 // the place `at` on, and tells the next place if it is public.
+#![tactic(auto)]
+
 ghost use Rattle.std.specs.Prelude.{◌≡◌, true, false, not, ◌&&◌, [], ◌∷◌, ◌++◌, ◌+◌, ◌≤◌, eqb, pos, ◌*ℤ◌};
 ghost use Rattle.whole.specs.Tests.{if◌then◌else◌};
 ghost use Rattle.whole.specs.Bits.{Fits, odd, half, bits_of};
@@ -169,7 +171,7 @@ pub fn multiply(model: &mut [u8], at: usize, w: u32, x: i64, y: i64) -> usize
 }
 
 // A number expanded: its numerator, its width, and the next place.
-#[derive(Drop)]
+#[derive(Clone, Copy)]
 pub struct Expanded {
     pub numerator: i64,
     pub width: u32,

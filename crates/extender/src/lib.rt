@@ -1,4 +1,6 @@
 // The rows of an accepted table extended: one row after the other, its bits behind those before it.
+#![tactic(auto)]
+
 ghost use Rattle.std.specs.Prelude.{◌≡◌, map, ◌<◌, pos, length, get_or};
 ghost use Rattle.whole.specs.Tests.{eq_z};
 ghost use Rattle.whole.specs.Bits.{bit};

@@ -4,6 +4,8 @@
 // The calls over lent records, `check`, `write` and `decode`, are a covered core, `fill` and `answer_of`, and are proved by hand. A program
 // in Rattle needs no such proof: it takes the cores, which answer the records by value (table::check_core, write::write_core,
 // decode::decode_core), and every other call from here.
+#![tactic(auto)]
+
 ghost use Rattle.std.specs.Prelude.{◌≡◌, true, false, ◌≤◌, length, take};
 ghost use Rattle.frame.specs.Frame.{front};
 ghost use Rattle.sheet.specs.Relations.{Checks, Measures, Writes, GivesRow, Evaluates, Extends, Decodes, ReadsLines, ReadsClaim};

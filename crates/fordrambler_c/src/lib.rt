@@ -3,6 +3,8 @@
 // no two outcomes meet it is stated in specs/Outcomes.antt, and proved.
 //
 // `fordrambler_check`, `fordrambler_write` and `fordrambler_decode` lend records and are proved by hand.
+#![tactic(auto)]
+
 ghost use Rattle.std.specs.Prelude.{◌≡◌};
 ghost use Rattle.whole.specs.Bits.{bit};
 ghost use Rattle.sheet.specs.Calls.{number_of, place_of, said, counted, told, found, claimed};

@@ -1,5 +1,7 @@
 // The gate writers. Each is lent the slots that remain, writes the clauses of one gate over their front, and answers the gate's literal.
 // The gate makes variable `next` + 1: `next` variables are made already. In a writer ng, na, nb and nc are the negations of g, a, b and c.
+#![tactic(auto)]
+
 ghost use Rattle.std.specs.Prelude.{◌≡◌, [], ◌∷◌, ◌≤◌, ◌<◌, length};
 ghost use Rattle.circuit.specs.Literals.{plus, neg, slot};
 ghost use Rattle.circuit.specs.Gates.{and, xor, mux, maj};

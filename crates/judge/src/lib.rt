@@ -1,5 +1,7 @@
 // The judge of a row that was read: it passes with its record and what it counts, or stops with refusal 5 to 9. Nothing is computed
 // before the tests in front of it, and the denominators of two numbers are brought together once.
+#![tactic(auto)]
+
 ghost use Rattle.std.specs.Prelude.{◌≡◌};
 ghost use Rattle.sheet.specs.Acceptance.{judge_by};
 ghost use Rattle.judge.specs.Bounds.{InLimits, Bounded};

@@ -1,4 +1,6 @@
 // Rows of numbers that refer to no other: unknowns and constants. They write no clauses.
+#![tactic(auto)]
+
 ghost use Rattle.std.specs.Prelude.{◌≡◌, map, ◌++◌, ℕ, ◌+◌, ◌-◌, ◌≤◌, ◌<◌, negsuc, replicate};
 ghost use Rattle.circuit.specs.Literals.{slot};
 ghost use Rattle.circuit.specs.Circuits.{ret, out};

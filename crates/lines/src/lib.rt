@@ -1,4 +1,6 @@
 // The reader of a table's lines, to the end of its text or to an empty line: it judges every line before it writes a row.
+#![tactic(auto)]
+
 ghost use Rattle.std.specs.Prelude.{◌≡◌, true, false, ◌&&◌, ◌≤◌, ◌+◌, ◌-◌, ◌*◌, ◌%◌, ltb, eqb, length};
 ghost use Rattle.whole.specs.Tests.{if◌then◌else◌};
 ghost use Rattle.frame.specs.Frame.{front};

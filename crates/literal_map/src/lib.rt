@@ -1,4 +1,6 @@
 // The literal map, 48 places a row: a row's literals are loaded and stored. Its layout is known nowhere else.
+#![tactic(auto)]
+
 ghost use Rattle.std.specs.Prelude.{◌≡◌, ◌+◌, ◌*◌, ◌≤◌, pos, length, get_or, take, drop};
 ghost use Rattle.sheet.specs.Steps.{page};
 ghost use Rattle.frame.specs.Frame.{over};
@@ -9,14 +11,14 @@ use frame::Number;
 use sheet::{Fields, MISSING, Record};
 
 // A row that another refers to: its literals and its record.
-#[derive(Drop)]
+#[derive(Clone, Copy)]
 pub struct Operand {
     pub number: Number,
     pub record: Record,
 }
 
 // The rows that a row's x, y and z name.
-#[derive(Drop)]
+#[derive(Clone, Copy)]
 pub struct Operands {
     pub a: Operand,
     pub b: Operand,

@@ -1,4 +1,6 @@
 // A number's literals: brought to a width, negated, and those of a constant.
+#![tactic(auto)]
+
 ghost use Rattle.std.specs.Prelude.{◌≡◌, ◌++◌, map, max, ◌≤◌, ◌<◌, ◌-◌, take, replicate};
 ghost use Rattle.whole.specs.Bits.{odd, extended};
 ghost use Rattle.circuit.specs.Literals.{neg, known, slot};

@@ -1,5 +1,7 @@
 // Rows over numbers, extended: both are brought to one denominator, x before y before z, then the operation's bits are put, from the place `at`
 // on. Every operation answers the next place.
+#![tactic(auto)]
+
 ghost use Rattle.std.specs.Prelude.{◌≡◌, true, false, ◌++◌, max, ◌+◌};
 ghost use Rattle.whole.specs.Tests.{if◌then◌else◌};
 ghost use Rattle.whole.specs.Bits.{bits_of};
@@ -11,14 +13,14 @@ ghost use Rattle.number_extender.specs.Brought.{Brought};
 use sheet::Record;
 
 // A row that another refers to: its record and its numerator, 0 or 1 for a Boolean.
-#[derive(Drop)]
+#[derive(Clone, Copy)]
 pub struct Operand {
     pub record: Record,
     pub numerator: i64,
 }
 
 // Two numbers over one denominator, the width that holds both, and the next place.
-#[derive(Drop)]
+#[derive(Clone, Copy)]
 pub struct Pair {
     pub x: i64,
     pub y: i64,

@@ -1,4 +1,6 @@
 // Rows over two numbers: both are brought to one denominator, x before y before z, then the operation is written.
+#![tactic(auto)]
+
 ghost use Rattle.std.specs.Prelude.{◌+◌, ◌*◌, ◌≤◌};
 ghost use Rattle.circuit.specs.Circuits.{gates};
 ghost use Rattle.circuit.specs.Numbers.{sum, difference, product, greater, equal, choice};
@@ -14,7 +16,7 @@ use frame::{Made, Number};
 use literal_map::Operand;
 
 // Two numbers over one denominator, where the slots go on, and how many variables there are.
-#[derive(Drop)]
+#[derive(Clone, Copy)]
 pub struct Pair {
     pub x: Number,
     pub y: Number,

@@ -1,4 +1,6 @@
 // The operations on two numbers of any widths, written into lent slots: both are brought to one width, then their circuit is written.
+#![tactic(auto)]
+
 ghost use Rattle.std.specs.Prelude.{◌≡◌, map, max, ◌+◌, ◌≤◌, ◌<◌};
 ghost use Rattle.circuit.specs.Literals.{slot};
 ghost use Rattle.circuit.specs.Circuits.{gates, out};

@@ -1,5 +1,7 @@
 // Numbers, DIMACS text and lines of one piece in print, into lent buffers. A long text is printed page by page: a page takes pieces as
 // long as 64 bytes are left for one, and the pages one after the other are the text (`DimacsPages` in specs/Pieces.antt).
+#![tactic(auto)]
+
 ghost use Rattle.std.specs.Prelude.{◌≡◌, [], ◌∷◌, ◌++◌, ◌≤◌, ◌+◌, length, get_or, nat_abs};
 ghost use Rattle.sheet.specs.Texts.{ascii, decimal, signed, slot_text, refused_line};
 ghost use Rattle.print.specs.Put.{Put};
@@ -7,7 +9,7 @@ ghost use Rattle.print.specs.Pages.{page_from, paged};
 ghost use Rattle.print.specs.Pieces.{pair_line, dimacs_pieces};
 
 // A page that was printed: the piece that the next page begins with, and how many bytes this one has.
-#[derive(Drop)]
+#[derive(Clone, Copy)]
 pub struct Page {
     pub next: usize,
     pub size: usize,

@@ -1,4 +1,6 @@
 // The product, written gate by gate: a row of AND gates for each bit of y, added to the running total from that bit's place on.
+#![tactic(auto)]
+
 ghost use Rattle.std.specs.Prelude.{◌≡◌, map, ◌++◌, ◌≤◌, take};
 ghost use Rattle.circuit.specs.Literals.{slot};
 ghost use Rattle.circuit.specs.Circuits.{gates, out};

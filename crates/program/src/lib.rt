@@ -1,4 +1,6 @@
 // What both programs make of their input: how much of it counts, and the clauses of the table in its lines.
+#![tactic(auto)]
+
 ghost use Rattle.std.specs.Prelude.{◌≡◌, ◌≤◌, length, take};
 ghost use Rattle.sheet.specs.Programs.{input_of};
 ghost use Rattle.sheet.specs.Calls.{left, sheet_map, sheet_slots};

@@ -128,7 +128,7 @@ extended_not_lost table values model₀ model₁ x =
       measured table sheet t.is_sheet,
       λ records₀ records₁ map₀ map₁ slots₀ slots₁ values₀ values₁ answer room d.
           let written = writes table sheet t.is_sheet (length records₀) (length map₀) (length slots₀) (omega (arith, room.record_room)) (omega (arith, room.map_room)) room.slot_room in
-          let (o, back) = none_lost table (length records₀) (length map₀) (length slots₀) (length values₀) sheet written (omega (arith, room.value_room)) values t.chosen t.truth-is in
+          let (o, back) = none_lost table (length records₀) (length map₀) (length slots₀) (length values₀) sheet written (omega (arith, room.value_room)) values t.chosen t.truth_is in
           let is = subst (λ (m : List ℕ). decoding table (length records₀) (length map₀) (length slots₀) m (length values₀) ≡ accepted sheet) (sym t.model_is) o in (
             is_done (decoding table (length records₀) (length map₀) (length slots₀) model (length values₀)) sheet is d.says,
             settled table records₀ records₁ map₀ map₁ slots₀ slots₁ model values₀ values₁ answer d sheet is ∙ ap (λ (m : List ℕ). settings_of m sheet) t.model_is ∙ back,
@@ -138,4 +138,4 @@ extended_not_lost table values model₀ model₁ x =
 pub extended_as_evaluated : ExtendedAsEvaluated
 extended_as_evaluated table values model₀ model₁ b x =
     let t = extends_tells table values model₀ model₁ b x in
-    subst (λ (c : Bool). EvaluatesTo c table values) t.truth-is (evaluated table t.sheet t.is_sheet values t.chosen)
+    subst (λ (c : Bool). EvaluatesTo c table values) t.truth_is (evaluated table t.sheet t.is_sheet values t.chosen)

@@ -1,4 +1,6 @@
 // The row reader: eight bytes from the middle of a table, answered by their fields or by refusal 3 or 4.
+#![tactic(auto)]
+
 ghost use Rattle.std.specs.Prelude.{◌≡◌, ◌∷◌, [], ◌+◌, ◌*◌, ◌≤◌, length};
 ghost use Rattle.sheet.specs.Rows as Rows;
 ghost use Rattle.row.specs.RowAt.{row_at};

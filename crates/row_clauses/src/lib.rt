@@ -1,11 +1,13 @@
 // The clauses of one row, as a part of the slots that the caller has: only read, never copied.
+#![tactic(auto)]
+
 ghost use Rattle.std.specs.Prelude.{◌≡◌, ◌+◌, ◌≤◌};
 ghost use Rattle.sheet.specs.Calls.{row_clauses};
 ghost use Rattle.sheet.specs.Relations.{GivesRow};
 ghost use Rattle.row_clauses.specs.Finding.{as_found};
 
 // Where a row's slots stand and how many they are, or a refusal and no slots.
-#[derive(Drop)]
+#[derive(Clone, Copy)]
 pub struct Found {
     pub number: u32,
     pub place: usize,

@@ -1,5 +1,7 @@
 // One row extended by its kind: what its gates hold is put into the model's bytes from the place `at` on, from the exact values of the rows
 // that it refers to. Every function answers the next place.
+#![tactic(auto)]
+
 ghost use Rattle.std.specs.Prelude.{not, ◌&&◌, [], ◌∷◌, pos};
 ghost use Rattle.whole.specs.Tests.{eq_z};
 ghost use Rattle.whole.specs.Bits.{bits_of};

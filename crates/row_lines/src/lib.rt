@@ -1,4 +1,6 @@
 // A line for every row of a table, over the front of a lent buffer: its exact value, or its number of slots.
+#![tactic(auto)]
+
 ghost use Rattle.std.specs.Prelude.{◌≡◌, ◌≤◌, ◌*◌, length, take};
 ghost use Rattle.frame.specs.Frame.{front};
 ghost use Rattle.sheet.specs.Texts.{value_lines, cost_lines};

@@ -1,4 +1,6 @@
 // The numerator of one row at chosen values, from the values of the rows that it refers to. A Boolean is 0 or 1.
+#![tactic(auto)]
+
 ghost use Rattle.std.specs.Prelude.{◌≡◌, not, ◌&&◌, ◌||◌, eqb, pos, ◌+ℤ◌, ◌-ℤ◌, ◌*ℤ◌};
 ghost use Rattle.std.specs.Bool.{beq};
 ghost use Rattle.std.specs.Int.Signed.{lt_z};
@@ -11,14 +13,14 @@ ghost use Rattle.row_value.specs.Operands.{is_true, row_over, common, brought, M
 use sheet::{Fields, Kind};
 
 // A row that another refers to: its numerator, 0 or 1 for a Boolean, and its denominator.
-#[derive(Drop)]
+#[derive(Clone, Copy)]
 pub struct Operand {
     pub numerator: i64,
     pub denominator: u32,
 }
 
 // Two numerators over one denominator.
-#[derive(Drop)]
+#[derive(Clone, Copy)]
 pub struct Brought {
     pub left: i64,
     pub right: i64,

@@ -1,4 +1,6 @@
 // A row's circuit, written by its kind.
+#![tactic(auto)]
+
 ghost use Rattle.circuit.specs.Circuits.{gates};
 ghost use Rattle.frame.specs.Written.{Room};
 ghost use Rattle.literal_map.specs.Rows.{RowMade};

@@ -1,4 +1,6 @@
 // The settings of a table in print: row, numerator and denominator of each unknown, one line each, page by page into a lent buffer.
+#![tactic(auto)]
+
 ghost use Rattle.std.specs.Prelude.{◌≡◌, [], ◌≤◌, ◌<◌, ◌+◌, ◌*◌, length, get_or};
 ghost use Rattle.print.specs.Put.{Put};
 ghost use Rattle.print.specs.Pages.{page_from, paged};

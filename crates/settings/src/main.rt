@@ -1,5 +1,7 @@
 // The settings program: reads a table's lines, an empty line and a solver's text from standard input and writes the settings of the table's
 // unknowns to standard output, or that none is claimed, or the line of a refusal. All between reading and writing is `settings_text`.
+#![tactic(auto)]
+
 ghost use Rattle.std.specs.Prelude.{◌≡◌, length};
 ghost use Rattle.sheet.specs.Programs.{settings_program};
 ghost use Rattle.standard_input.specs.Reads.{bytes, IsWhole};

@@ -1,5 +1,7 @@
 // The output of the settings program and of the values program as functions of their input: the settings of the table's unknowns that the
 // solver's text tells, or every row's exact value at these; that none is claimed; or the line of a refusal.
+#![tactic(auto)]
+
 ghost use Rattle.std.specs.Prelude.{◌≡◌, ◌≤◌, length};
 ghost use Rattle.frame.specs.Frame.{front};
 ghost use Rattle.sheet.specs.Rows.{rows_of};

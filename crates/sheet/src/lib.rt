@@ -1,9 +1,11 @@
 // The types of a sheet: what a row says, the record that it passes with, and the answers. The definitions over them are in
 // specs/, their laws in proofs/; no functions.
+#![tactic(auto)]
+
 use circuit::Counts;
 
 // The kinds of rows, in the order of document 01.
-#[derive(Drop)]
+#[derive(Clone, Copy)]
 pub enum Kind {
     BooleanConstant,
     BooleanUnknown,
@@ -24,13 +26,13 @@ pub enum Kind {
 }
 
 // What a kind's byte names.
-#[derive(Drop)]
+#[derive(Clone, Copy)]
 pub enum Named {
     Is(Kind),
     Unknown,
 }
 
-#[derive(Drop)]
+#[derive(Clone, Copy)]
 pub struct Fields {
     pub kind: Kind,
     pub p: u8,
@@ -40,7 +42,7 @@ pub struct Fields {
 }
 
 // A row's fields, or its refusal 3 or 4.
-#[derive(Drop)]
+#[derive(Clone, Copy)]
 pub enum Reading {
     Read(Fields),
     Refused(u32),
@@ -48,7 +50,7 @@ pub enum Reading {
 
 // Sort 0 is a Boolean, 1 a number. `first` is the row's first slot, from 0, `slots` their number.
 #[repr(C)]
-#[derive(Drop)]
+#[derive(Clone, Copy)]
 pub struct Record {
     pub sort: u32,
     pub width: u32,
@@ -67,35 +69,35 @@ pub const MISSING: Record = Record {
 };
 
 // A row passes with its record and what it counts, or stops with its refusal.
-#[derive(Drop)]
+#[derive(Clone, Copy)]
 pub enum Verdict {
     Pass(Record, Counts),
     Stop(u32),
 }
 
 // What measuring answers: what the table counts, or its refusal's number and place.
-#[derive(Drop)]
+#[derive(Clone, Copy)]
 pub enum Measured {
     Counted(Counts),
     Refused(u32, usize),
 }
 
 // What a call answers that writes into lent buffers.
-#[derive(Drop)]
+#[derive(Clone, Copy)]
 pub enum Answer {
     Done,
     Refused(u32, usize),
 }
 
 // What extending answers: whether the constraint is true of the values.
-#[derive(Drop)]
+#[derive(Clone, Copy)]
 pub enum Extended {
     Constraint(bool),
     Refused(u32, usize),
 }
 
 // What a reader of lines found: how many rows, where the text behind them begins, and whether an empty line ended them.
-#[derive(Drop)]
+#[derive(Clone, Copy)]
 pub struct LinesFound {
     pub rows: u32,
     pub rest: usize,
@@ -103,14 +105,14 @@ pub struct LinesFound {
 }
 
 // The answer of a reader of lines; a refusal has its number and place.
-#[derive(Drop)]
+#[derive(Clone, Copy)]
 pub enum LinesRead {
     Read(LinesFound),
     Refused(u32, usize),
 }
 
 // The answer of the reader of the solver's text; a model's bytes are in the buffer that was lent.
-#[derive(Drop)]
+#[derive(Clone, Copy)]
 pub enum ClaimRead {
     Model,
     NoneClaimed,

@@ -1,5 +1,7 @@
 // The reader of a solver's text: it judges the whole text before it writes the model. A text is right if it is the printed text of the
 // model that its own signs tell.
+#![tactic(auto)]
+
 ghost use Rattle.std.specs.Prelude.{◌≡◌, true, [], ◌∷◌, ◌++◌, ◌≤◌, ◌<◌, length, drop};
 ghost use Rattle.frame.specs.Frame.{front};
 ghost use Rattle.sheet.specs.Calls.{◌giving◌, left, claimed};
@@ -9,7 +11,7 @@ ghost use Rattle.solver_text.specs.Passing.{passing};
 use sheet::ClaimRead;
 
 // A part of the text is as it should be, and the rest begins at a place; or it is not.
-#[derive(Drop)]
+#[derive(Clone, Copy)]
 pub enum Step {
     Next(usize),
     Wrong,

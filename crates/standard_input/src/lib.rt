@@ -1,12 +1,14 @@
 // Reading the whole of a program's input. A read that fails is not the end of the input: an interrupted one is tried again, and after any
 // other there is no input at all, so that nothing is ever made of a part of it.
+#![tactic(auto)]
+
 ghost use Rattle.std.specs.Prelude.{◌≡◌, ◌-◌, ◌≤◌, length, take};
 ghost use Rattle.libc.specs.Io.{Moved};
 ghost use Rattle.io.specs.Counts.{IsPrefixLen};
 ghost use Rattle.standard_input.specs.Reads.{after_read, OneMore, Reached, Over, bytes};
 
 // How far reading has come: so many bytes are there, and so many more interrupted reads are put up with; all is there; or a read failed.
-#[derive(Drop)]
+#[derive(Clone, Copy)]
 pub enum Progress {
     Going(usize, u32),
     Whole(usize),

@@ -1,5 +1,7 @@
 // The walk of a table: the first row that stops decides; else the records of all rows, and what the table counts. One pass over the
 // table, `survey`, serves checking and measuring.
+#![tactic(auto)]
+
 ghost use Rattle.std.specs.Prelude.{◌≡◌, List, ℕ, ◌≤◌, ◌<◌, min, take, drop};
 ghost use Rattle.sheet.specs.Acceptance as Acceptance;
 ghost use Rattle.sheet.specs.Acceptance.{accept};
@@ -16,7 +18,7 @@ use sheet::{MISSING, Measured, Reading, Record, Verdict};
 pub mod answer;
 
 // Where three rows stand among the records.
-#[derive(Drop)]
+#[derive(Clone, Copy)]
 struct Places {
     x: usize,
     y: usize,

@@ -1,4 +1,6 @@
 // The unknowns among a table's rows, and the values that they take in row order.
+#![tactic(auto)]
+
 ghost use Rattle.std.specs.Prelude.{◌≡◌, ◌+◌, ◌*◌, ◌≤◌, pos, length, get_or};
 ghost use Rattle.whole.specs.Bits.{bit};
 ghost use Rattle.sheet.specs.Rows.{uses, is_unknown};

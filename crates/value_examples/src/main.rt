@@ -1,6 +1,8 @@
 // Runs document 01's examples of values through the calls. Each table ends in a comparison, with the value that the document gives where
 // there is one; operands are unknowns where they can be. Of the values chosen for them it shows every row's numerator and denominator,
 // whether the constraint is true, and the settings that the extended model decodes to. The file stdout has what the document says.
+#![tactic(auto)]
+
 use sheet::{Answer, Extended, Measured, Record};
 
 fn write_refusal(words: &[u8], number: u32, place: usize) {

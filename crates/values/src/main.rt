@@ -1,6 +1,8 @@
 // The values program: reads a table's lines, an empty line and a solver's text from standard input and writes every row's exact value at the
 // settings that it tells to standard output, or that none is claimed, or the line of a refusal. All between reading and writing is
 // `values_text`.
+#![tactic(auto)]
+
 ghost use Rattle.std.specs.Prelude.{◌≡◌, length};
 ghost use Rattle.sheet.specs.Programs.{values_program};
 ghost use Rattle.standard_input.specs.Reads.{bytes, IsWhole};

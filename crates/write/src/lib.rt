@@ -1,4 +1,6 @@
 // Writing a table: every refusal is decided before anything is written; then the first unit, the rows and the last unit.
+#![tactic(auto)]
+
 ghost use Rattle.std.specs.Prelude.{◌≡◌, [], ◌∷◌, ◌≤◌, pos, length};
 ghost use Rattle.sheet.specs.Rows.{rows_of};
 ghost use Rattle.sheet.specs.Steps.{map_for, slots_for};

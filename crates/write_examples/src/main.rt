@@ -1,6 +1,7 @@
 // Runs the whole example of document 01 and its natural of two bits: the clauses written, the first places of each row in the literal map, and
 // the last row's own clauses, a line ending behind each 0. The file stdout has what the document says; the clauses of the second example
 // were worked out from the document's rules.
+#![tactic(auto)]
 
 fn write_refusal(number: u32, place: usize) {
     io::write_all(1, b"refused ");

@@ -1,4 +1,6 @@
 // Rows to clauses: one row after the other, its slots behind those before it, its literals into the map.
+#![tactic(auto)]
+
 ghost use Rattle.std.specs.Prelude.{◌≡◌, ◌+◌, length};
 ghost use Rattle.sheet.specs.Rows.{rows_of};
 ghost use Rattle.sheet.specs.Steps.{map_for};

@@ -132,13 +132,13 @@ loop-again c =
     let e = rw (held_lit (get_or x i (pos 0)) (s.requires.1.1.1.0 i h), held_lit (get_or y i (pos 0)) (s.requires.1.1.1.1.0 i h)) at bit.0 in
     let us = bit_gates n (literal_at x i) (literal_at y i) (unslot k) in
     let d = lent at (written n us) t.loop.slots p.put-bit.new.0 e in
-    let turn = gates_at i w x y (unslot k) n h q.long-x q.long-y in
-    let ends = out_at i w x y (unslot k) n h q.long-x q.long-y in
+    let turn = gates_at i w x y (unslot k) n h q.long_x q.long_y in
+    let ends = out_at i w x y (unslot k) n h q.long_x q.long_y in
     rw (answered (bit.1.0, bit.1.1.0), answered (bit.1.1.1.0, bit.1.1.1.1))
     (record {
       lit = rw bit.1.1.1.0 at bit.1.1.1.1;
       sound = literals_put w t.loop.bits i (slot (plus (n + 1))) v.sound (omega arith) (rw bit.1.0 at bit.1.1.0);
-      filling = filling_turn v.filling us (plus (n + 1)) (adding (slot (plus (n + 2))) x y (i + 1) w) h q.long-x turn ends (wrote_of us d);
+      filling = filling_turn v.filling us (plus (n + 1)) (adding (slot (plus (n + 2))) x y (i + 1) w) h q.long_x turn ends (wrote_of us d);
     })
 
 same_length : tie.Need-same-length invariant-loop decreases-loop

@@ -133,12 +133,12 @@ loop-again c =
     let e = rw (to_z-of_z s.ranges.condition, held_lit (get_or x i (pos 0)) (s.requires.1.1.0 i h), held_lit (get_or y i (pos 0)) (s.requires.1.1.1.0 i h)) at bit.0 in
     let us : List Gate = mux k (literal_at x i) (literal_at y i) ∷ [] in
     let d = lent at (written n us) t.loop.slots p.put-mux.new.0 e in
-    let turn = gates_at i w x y k n h q.long-x q.long-y in
-    let ends = out_at i w x y k n h q.long-x q.long-y in
+    let turn = gates_at i w x y k n h q.long_x q.long_y in
+    let ends = out_at i w x y k n h q.long_x q.long_y in
     rw (to_z-of_z s.ranges.condition, answered bit.1)
     (record {
       sound = literals_put w t.loop.bits i (slot (plus n)) v.sound (omega arith) (rw bit.1.0 at bit.1.1);
-      filling = filling_turn v.filling us (plus n) (muxes k (between (i + 1) w x) (between (i + 1) w y)) h q.long-x turn ends (wrote_of us d);
+      filling = filling_turn v.filling us (plus n) (muxes k (between (i + 1) w x) (between (i + 1) w y)) h q.long_x turn ends (wrote_of us d);
     })
 
 same_length : tie.Need-same-length invariant-loop decreases-loop

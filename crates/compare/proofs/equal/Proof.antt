@@ -126,12 +126,12 @@ loop-again c =
     let e = rw (held_lit (get_or x i (pos 0)) (s.requires.1.0 i h), held_lit (get_or y i (pos 0)) (s.requires.1.1.0 i h)) at bit.0 in
     let us = match_gates n (literal_at x i) (literal_at y i) k in
     let d = lent at (written n us) t.loop.slots p.put-match.new.0 e in
-    let turn = equal_at i w x y n h q.long-x q.long-y k in
+    let turn = equal_at i w x y n h q.long_x q.long_y k in
     rw (answered bit.1)
     (record {
       within = omega arith;
       lit = rw bit.1.0 at bit.1.1;
-      going = going_turn v.going us (equal_from (plus (n + 1)) (between (i + 1) w x) (between (i + 1) w y)) turn (equal_out i w x y n h q.long-x q.long-y k) (wrote_of us d);
+      going = going_turn v.going us (equal_from (plus (n + 1)) (between (i + 1) w x) (between (i + 1) w y)) turn (equal_out i w x y n h q.long_x q.long_y k) (wrote_of us d);
     })
 
 same_length : tie.Need-same-length invariant-loop decreases-loop

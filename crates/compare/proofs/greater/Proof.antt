@@ -148,12 +148,12 @@ loop-again c =
     let e = rw (held_lit (get_or x i (pos 0)) (s.requires.1.1.0 i h), held_lit (get_or y i (pos 0)) (s.requires.1.1.1.0 i h)) at bit.0 in
     let us = order_gates n (literal_at x i) (literal_at y i) (literal_at x i) k in
     let d = lent at (written n us) t.loop.slots p.put_order.new.0 e in
-    let turn = greater_at i w x y n h q.long-x q.long-y j k in
+    let turn = greater_at i w x y n h q.long_x q.long_y j k in
     rw (answered bit.1)
     (record {
       within = omega arith;
       lit = rw bit.1.0 at bit.1.1;
-      going = going_turn v.going us (greater_from (plus (n + 1)) (between (i + 1) w x) (between (i + 1) w y)) turn (greater_out i w x y n h q.long-x q.long-y j k) (wrote_of us d);
+      going = going_turn v.going us (greater_from (plus (n + 1)) (between (i + 1) w x) (between (i + 1) w y)) turn (greater_out i w x y n h q.long_x q.long_y j k) (wrote_of us d);
     })
 
 mul-a-2 : tie.Need-overflow-mul-a-2 invariant-loop decreases-loop
@@ -222,8 +222,8 @@ returns c =
     let e = rw (held_lit (get_or x i (pos 0)) (s.requires.1.1.0 i h), held_lit (get_or y i (pos 0)) (s.requires.1.1.1.0 i h)) at bit.0 in
     let us = order_gates n (literal_at x i) (literal_at y i) (literal_at y i) k in
     let d = lent at (written n us) t.loop.slots p.put-order2.new.0 e in
-    let turn = greater_last i w x y n h q.long-x q.long-y j k in
-    let done = going_turn v.going us (ret (plus (n + 1))) turn (greater_lit i w x y n h q.long-x q.long-y j k) (wrote_of us d) in
+    let turn = greater_last i w x y n h q.long_x q.long_y j k in
+    let done = going_turn v.going us (ret (plus (n + 1))) turn (greater_lit i w x y n h q.long_x q.long_y j k) (wrote_of us d) in
     let end = going_end done refl refl in
     rw (held_lit p.put-order2.result bit.1.1)
     (end.0, (bit.1.0 ∙ ap slot end.1, bit.1.1))

@@ -32,7 +32,7 @@ choice-requires c κs =
     let m = p.bring.ensures in
     let l = t.literal.ensures in (
       lit_held t.literal.result l.1,
-      (m.number-x, (m.number-y, rw (held_lit t.literal.result l.1, l.0) (next_room b d made r m))),
+      (m.number_x, (m.number_y, rw (held_lit t.literal.result l.1, l.0) (next_room b d made r m))),
     )
 
 same_length : tie.Need-same-length

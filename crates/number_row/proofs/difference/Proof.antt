@@ -24,7 +24,7 @@ difference-requires c κs =
     let b = s.args.b in
     let r = number_room (least (cell_of a) (cell_of b)) (brought (cell_of a) (cell_of b) difference) s.requires.1.1.1 in
     let m = p.bring.ensures in
-    (m.number-x, (m.number-y, (omega (arith, m.width-x, m.width-y, s.requires.1.1.0), next_room a b difference r m)))
+    (m.number_x, (m.number_y, (omega (arith, m.width_x, m.width_y, s.requires.1.1.0), next_room a b difference r m)))
 
 same_length : tie.Need-same-length
 same_length c = search rules

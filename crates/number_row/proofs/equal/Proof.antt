@@ -24,7 +24,7 @@ equal-requires c κs =
     let b = s.args.b in
     let r = literal_room (brought (cell_of a) (cell_of b) equal) s.requires.1.1.1 in
     let m = p.bring.ensures in
-    (m.number-x, (m.number-y, next_room a b equal r m))
+    (m.number_x, (m.number_y, next_room a b equal r m))
 
 single-requires : tie.Need-single-requires
 single-requires c κs = search rules

@@ -24,7 +24,7 @@ greater-requires c κs =
     let b = s.args.b in
     let r = literal_room (brought (cell_of a) (cell_of b) greater) s.requires.1.1.1 in
     let m = p.bring.ensures in
-    (m.number-x, (m.number-y, next_room a b greater r m))
+    (m.number_x, (m.number_y, next_room a b greater r m))
 
 single-requires : tie.Need-single-requires
 single-requires c κs = search rules

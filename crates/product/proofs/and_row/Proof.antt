@@ -132,13 +132,13 @@ loop-again c =
     let e = rw (to_z-of_z s.ranges.bit, held_lit (get_or x j (pos 0)) (s.requires.1.1.1.0 j hj)) at bit.0 in
     let us : List Gate = and (literal_at x j) k ∷ [] in
     let d = lent at (written n us) t.loop.slots p.put-and.new.0 e in
-    let turn = ands_at i j w x k n h hj q.long-x in
-    let ends = ands_out i j w x k n h hj q.long-x in
+    let turn = ands_at i j w x k n h hj q.long_x in
+    let ends = ands_out i j w x k n h hj q.long_x in
     rw (to_z-of_z s.ranges.bit, answered bit.1)
     (record {
       apart = omega arith;
       sound = literals_put w t.loop.bits i (slot (plus n)) v.sound (omega arith) (rw bit.1.0 at bit.1.1);
-      filling = filling_turn v.filling us (plus n) (ands (w - (i + 1)) (between (j + 1) w x) k) h q.long-y turn ends (wrote_of us d);
+      filling = filling_turn v.filling us (plus n) (ands (w - (i + 1)) (between (j + 1) w x) k) h q.long_y turn ends (wrote_of us d);
     })
 
 same_length : tie.Need-same-length invariant-loop decreases-loop
