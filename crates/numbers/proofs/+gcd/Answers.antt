@@ -12,8 +12,8 @@ use Rattle.numbers.proofs.+gcd.Goals as goal
 told : (a b r : ℕ) → r ≡ gcd a b → (r ≡ gcd a b) × IsGcd a b r
 told a b r e = (e, rw e (gcd_is a b))
 
-pub GONE-nonzero-rem-gcd : goal.GONE-nonzero-rem-gcd
-GONE-nonzero-rem-gcd t c = omega (arith, pos_of_ne-zero c.if-b-eq0.false)
+pub nonzero_rem-a : goal.nonzero_rem-a
+nonzero_rem-a t c = omega (arith, pos_of_ne-zero c.if-b-eq0.false)
 
 pub gcd-requires : goal.gcd-requires
 gcd-requires t c = (omega (arith, mod-lt c.args.a (pos_of_ne-zero c.if-b-eq0.false), c.requires.0), tt)
@@ -22,4 +22,4 @@ pub returns-then-b-eq0 : goal.returns-then-b-eq0
 returns-then-b-eq0 t c = rw c.if-b-eq0.true (told _ _ _ (sym (gcd_zero c.args.a)))
 
 pub returns-else-b-eq0 : goal.returns-else-b-eq0
-returns-else-b-eq0 t c = told _ _ _ (c.gcd.ensures.value ∙ sym (gcd_onward c.args.a c.args.b c.if-b-eq0.false))
+returns-else-b-eq0 t c = let told = told _ _ _ (c.gcd.ensures.value ∙ sym (gcd_onward c.args.a c.args.b c.if-b-eq0.false)) in record { value = told.0; divides = told.1 }

@@ -4,8 +4,8 @@ use lib.Count.{leading_le}
 use Rattle.numbers.proofs.Digits.{fewest_leading, fewest_few}
 use Rattle.numbers.proofs.bits.Goals as goal
 
-pub GONE-overflow-sub-result : goal.GONE-overflow-sub-result
-GONE-overflow-sub-result c = omega (arith, leading_le 32 c.args.n)
+pub overflow_sub-result : goal.overflow_sub-result
+overflow_sub-result c = omega (arith, leading_le 32 c.args.n)
 
 pub returns : goal.returns
 returns c =

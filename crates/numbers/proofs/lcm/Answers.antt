@@ -8,11 +8,11 @@ use Rattle.whole.specs.Divisors.{lcm}
 use Rattle.whole.proofs.Divisors.{lcm_is}
 use Rattle.numbers.proofs.lcm.Goals as goal
 
-pub GONE-nonzero-div-result : goal.GONE-nonzero-div-result
-GONE-nonzero-div-result c = pos_of_dvd_of_pos c.gcd-d.ensures.divides.left c.requires.denominator_a.some
+pub nonzero_div-result : goal.nonzero_div-result
+nonzero_div-result c = pos_of_dvd_of_pos c.gcd-d.ensures.divides.left c.requires.denominator_a.some
 
-pub GONE-overflow-mul-result : goal.GONE-overflow-mul-result
-GONE-overflow-mul-result c =
+pub overflow_mul-result : goal.overflow_mul-result
+overflow_mul-result c =
     let s = c in
     record { fits = lt_of_le_of_lt (mul-le-mul (le_trans (div-le_self s.args.a c.gcd-d.result) s.requires.denominator_a.most) s.requires.denominator_b.most) (lit< tt) }
 

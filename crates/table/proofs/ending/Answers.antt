@@ -28,6 +28,6 @@ returns c =
     let l : length s.args.t1 ≡ 256 = search rules in
     let n : s.args.rows ≤ length s.args.t1 = omega arith in (
       λ t.
-          rw (ending_at t s.args.t1 s.args.rows s.args.so s.requires.rows_least n, ne_eqb _ _ c.if-record-eq1.false, filled s.args.t1 blank s.args.rows s.requires.drop_is n, length-take-le s.args.rows s.args.t1 n, c.plus-counts.ensures),
-      record { few = s.requires.rows_most; limits = s.requires.all_in_limits; counts = plus_below s.requires.below_so last-below c.plus-counts.ensures },
+          rw (ending_at t s.args.t1 s.args.rows s.args.so s.requires.rows_least n, ne_eqb _ _ c.if-record-eq1.false, filled s.args.t1 blank s.args.rows s.requires.drop_is n, length-take-le s.args.rows s.args.t1 n, c.plus-counts.ensures.answer),
+      record { few = s.requires.rows_most; limits = s.requires.all_in_limits; counts = plus_below s.requires.below_so last-below c.plus-counts.ensures.answer },
     )

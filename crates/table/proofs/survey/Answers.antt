@@ -19,20 +19,12 @@ use Rattle.table.specs.Surveys.{number_of_verdict, blank, AllInLimits}
 use Rattle.table.proofs.Lengths.{Whole, is_refused, is_walked}
 use Rattle.table.proofs.Earlier.{fill, take_more, limits_more, zeros, looked}
 use Rattle.table.proofs.Walking.{walk_pass, walk_stop, walk_end, Near, nearby, judged}
+use Rattle.table.proofs.survey.Invariants.{Left}
 use Rattle.table.proofs.survey.Goals as goal
-
--- nothing is written past the records so far, and all keep to their bounds
-record Left (table : List ℕ) (rows : ℕ) (records : List Record) (so : Counts) (r : ℕ) : Type 0 where
-  whole : Whole table rows
-  within : r ≤ rows
-  long : length records ≡ 256
-  left : walk table (take r records) so (rows - r) (drop (8 * r) table) ≡ accept table
-  clear : drop r records ≡ drop r blank
-  limits : AllInLimits (take r records)
-  few : Below (2 + 170000 * r) so
+use Rattle.table.proofs.survey.Goals.{After-referred-at, After-verdict_on-verdict, In-loop-r}
 
 -- ---- in a turn
-module _ (q : goal.In-loop-r) where
+module _ (q : In-loop-r) where
   abbrev r : ℕ
   r = q.loop-r.r
 
@@ -64,22 +56,22 @@ module _ (q : goal.In-loop-r) where
   row_at x = looked records r x inside small q.loop-r.invariant.clear q.loop-r.invariant.limits
 
 -- the turn in which a row was read, and in which it was judged
-abbrev turn : goal.After-referred-at → goal.In-loop-r
+abbrev turn : After-referred-at → In-loop-r
 turn p = p
 
-abbrev found : goal.After-verdict_on-verdict → goal.After-referred-at
+abbrev found : After-verdict_on-verdict → After-referred-at
 found w = w
 
 pub returns-then-n-ne0 : goal.returns-then-n-ne0
 returns-then-n-ne0 c =
     let n = c in
-    rw (is_refused _ n.refusal_of_length-n.ensures c.if-n-ne0.true) c.refused.ensures
+    rw (is_refused _ n.refusal_of_length-n.ensures.answer c.if-n-ne0.true) c.refused.ensures
 
 pub loop-r-init : goal.loop-r-init
 unfolding blank
 loop-r-init c =
     let n = c in
-    let whole = is_walked _ n.refusal_of_length-n.ensures c.if-n-ne0.false in
+    let whole = is_walked _ n.refusal_of_length-n.ensures.answer c.if-n-ne0.false in
     record {
       whole = whole;
       within = omega arith;
@@ -91,23 +83,23 @@ loop-r-init c =
     }
 
 -- where a row refers to there is a record, within the limits
-near : (p : goal.After-referred-at) → Near (r (turn p)) (records (turn p)) p.referred-at.result
+near : (p : After-referred-at) → Near (r (turn p)) (records (turn p)) p.referred-at.result
 near p = nearby (r (turn p)) (records (turn p)) p.read_row-reading.result p.referred-at.ensures (small (turn p)) (λ x. (row_at (turn p) x).1)
 
-pub GONE-overflow-mul-verdict-on : goal.GONE-overflow-mul-verdict-on
-GONE-overflow-mul-verdict-on c = omega (arith, (near c).x.0)
+pub offset_bounds-records-x : goal.offset_bounds-records-x
+offset_bounds-records-x c = omega (arith, (near c).x.0)
 
 pub bounds-records-x : goal.bounds-records-x
 bounds-records-x c = (near c).x.0
 
-pub GONE-overflow-mul-verdict-on-2 : goal.GONE-overflow-mul-verdict-on-2
-GONE-overflow-mul-verdict-on-2 c = omega (arith, (near c).y.0)
+pub offset_bounds-records-y : goal.offset_bounds-records-y
+offset_bounds-records-y c = omega (arith, (near c).y.0)
 
 pub bounds-records-y : goal.bounds-records-y
 bounds-records-y c = (near c).y.0
 
-pub GONE-overflow-mul-verdict-on-3 : goal.GONE-overflow-mul-verdict-on-3
-GONE-overflow-mul-verdict-on-3 c = omega (arith, (near c).z.0)
+pub offset_bounds-records-z : goal.offset_bounds-records-z
+offset_bounds-records-z c = omega (arith, (near c).z.0)
 
 pub bounds-records-z : goal.bounds-records-z
 bounds-records-z c = (near c).z.0
@@ -115,12 +107,12 @@ bounds-records-z c = (near c).z.0
 pub verdict_on-verdict-requires : goal.verdict_on-verdict-requires
 verdict_on-verdict-requires c = let n = near c in record { in_limits_a = n.x.1; in_limits_b = n.y.1; in_limits_c = n.z.1 }
 
-is-judged : (w : goal.After-verdict_on-verdict) → let q = turn (found w) in
+is-judged : (w : After-verdict_on-verdict) → let q = turn (found w) in
     w.verdict_on-verdict.result ≡ judge (take (r q) (records q)) (so q).slots (read_row (take 8 (drop (8 * r q) (table q))))
 is-judged w =
     let p = found w in
     let q = turn p in
-    let u = rw add-sub_cancel_left at p.read_row-reading.ensures in
+    let u = rw add-sub_cancel_left at p.read_row-reading.ensures.answer in
     w.verdict_on-verdict.ensures.answer ∙ judged (take (r q) (records q)) (records q) (r q) (so q).slots p.read_row-reading.result p.referred-at.ensures (many q) (λ x. (row_at q x).0) ∙ ap (judge (take (r q) (records q)) (so q).slots) u
 
 pub returns-in_default : goal.returns-in_default
@@ -129,10 +121,10 @@ returns-in_default c =
     let w = k in
     let q = turn (found w) in
     let t = k.in_default.is in
-    let o = sym q.loop-r.invariant.left ∙ walk_stop (take (r q) (records q)) (so q) (table q) (rows q) (r q) (below q) _ (sym (is-judged w) ∙ t) in record { answer = rw (o, many q) (rw (c.number_of_verdict.ensures ∙ ap number_of_verdict t) at c.refused-in_default.ensures.answer); bounds = c.refused-in_default.ensures.bounds }
+    let o = sym q.loop-r.invariant.left ∙ walk_stop (take (r q) (records q)) (so q) (table q) (rows q) (r q) (below q) _ (sym (is-judged w) ∙ t) in record { answer = rw (o, many q) (rw (c.number_of_verdict.ensures.answer ∙ ap number_of_verdict t) at c.refused-in_default.ensures.answer); bounds = c.refused-in_default.ensures.bounds }
 
-pub GONE-overflow-mul-records : goal.GONE-overflow-mul-records
-GONE-overflow-mul-records c = omega (arith, small (turn (found c)))
+pub offset_bounds-records-r : goal.offset_bounds-records-r
+offset_bounds-records-r c = omega (arith, small (turn (found c)))
 
 pub bounds-records-r : goal.bounds-records-r
 bounds-records-r c = small (turn (found c))
@@ -147,8 +139,8 @@ plus-so-requires c =
     let m = small q in
     (search rules, search rules)
 
-pub GONE-overflow-add-r : goal.GONE-overflow-add-r
-GONE-overflow-add-r c = omega (arith, small (turn (found c)))
+pub overflow_add-r : goal.overflow_add-r
+overflow_add-r c = omega (arith, small (turn (found c)))
 
 pub loop-r-smaller : goal.loop-r-smaller
 loop-r-smaller c = omega (arith, below (turn (found c)))
@@ -161,13 +153,13 @@ loop-r-preserved c =
     let i = q.loop-r.invariant in
     let o = k.in-Pass.record in
     let p = rw k.in-Pass.is at w.verdict_on-verdict.ensures.bounded in
-    let b = plus_below i.few p.1 c.plus-so.ensures in
+    let b = plus_below i.few p.1 c.plus-so.ensures.answer in
     let more = take_more (records q) (r q) o (inside q) in
     record {
       whole = i.whole;
       within = omega (arith, below q);
       long = simp length-set i.long;
-      left = rw (more, c.plus-so.ensures) (sym (walk_pass (take (r q) (records q)) (so q) (table q) (rows q) (r q) (below q) _ _ (sym (is-judged w) ∙ k.in-Pass.is)) ∙ i.left);
+      left = rw (more, c.plus-so.ensures.answer) (sym (walk_pass (take (r q) (records q)) (so q) (table q) (rows q) (r q) (below q) _ _ (sym (is-judged w) ∙ k.in-Pass.is)) ∙ i.left);
       clear = fill (records q) blank (r q) i.clear o;
       limits = rw more (limits_more (take (r q) (records q)) o i.limits p.0);
       few = record { unknowns = omega arith; variables = omega arith; clauses = omega arith; slots = omega arith };

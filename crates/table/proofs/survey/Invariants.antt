@@ -21,6 +21,16 @@ use Rattle.table.proofs.Earlier.{fill, take_more, limits_more, zeros, looked}
 use Rattle.table.proofs.Walking.{walk_pass, walk_stop, walk_end, Near, nearby, judged}
 use Rattle.table.proofs.survey.Given as goal
 
+-- nothing is written past the records so far, and all keep to their bounds
+pub record Left (table : List ℕ) (rows : ℕ) (records : List Record) (so : Counts) (r : ℕ) : Type 0 where
+  pub whole : Whole table rows
+  pub within : r ≤ rows
+  pub long : length records ≡ 256
+  pub left : walk table (take r records) so (rows - r) (drop (8 * r) table) ≡ accept table
+  pub clear : drop r records ≡ drop r blank
+  pub limits : AllInLimits (take r records)
+  pub few : Below (2 + 170000 * r) so
+
 abbrev pub invariant-loop-r : goal.invariant-loop-r
 invariant-loop-r l = Left l.table l.rows l.records l.so l.r
 

@@ -1,0 +1,27 @@
+-- `bits::read` meets its contract. Assumes nothing.
+use mathlib.Core.Path.{◌≡◌, sym}
+use mathlib.Core.List.{List}
+use Prim.Native.Nat.{ℕ, ◌-◌, ◌<◌}
+use native.Mathlib.Omega.{arith}
+use borrow.Author.Rules.{rules}
+use lib.IntN.{ℤ, pos}
+use lib.ListN.{length, get_or, drop, length-drop}
+use mir.Syntax.{w64}
+use mir.Val.{to_z}
+use Rattle.whole.specs.Bits.{to_int}
+use Rattle.frame.proofs.Literals.{held}
+use Rattle.arithmetic.proofs.Words.{kept}
+use Rattle.bits.specs.Readings.{values}
+use Rattle.bits.proofs.Reading.{values_fit, last_value, more_values}
+use Rattle.bits.proofs.read.Given as goal
+
+-- the literals from i on are read
+pub record ReadFrom (literals : List ℤ) (model : List ℕ) (i : ℕ) (v : ℤ) : Type 0 where
+  pub within : i < length literals
+  pub value : v ≡ to_int (values model (drop i literals))
+
+abbrev pub invariant-loop-i : goal.invariant-loop-i
+invariant-loop-i l = ReadFrom l.literals l.model l.i (to_z w64 l.v)
+
+abbrev pub decreases-loop-i : goal.decreases-loop-i
+decreases-loop-i l = l.i

@@ -1,0 +1,22 @@
+-- `check_settings::show` is safe and ends. Assumes nothing.
+use mathlib.Core.List.{List}
+use Prim.Native.Nat.{ℕ}
+use borrow.Author.Rules.{rules}
+use lib.ListN.{replicate}
+use Rattle.program.proofs.Printed.{printed_within, printed_long}
+use Rattle.check_settings.proofs.show.Goals as goal
+use Rattle.check_settings.proofs.show.Goals.{GONE-slice-aggregate-write-all-2}
+
+-- the output's buffer as it is lent
+abbrev blank : List ℕ
+blank = replicate 16448 0
+
+pub slice_bounds-out-end : goal.slice_bounds-out-end
+slice_bounds-out-end c =
+    let (answer, out) = c.settings_text-size.ensures in
+    printed_within _ blank answer out
+
+pub GONE-slice-aggregate-write-all-2 : GONE-slice-aggregate-write-all-2
+GONE-slice-aggregate-write-all-2 c =
+    let (answer, out) = c.settings_text-size.ensures in
+    printed_long _ blank answer out

@@ -1,0 +1,14 @@
+-- `check_settings::show_many` is safe and ends. Assumes nothing.
+use mathlib.Core.Path.{◌≡◌, sym}
+use Prim.Native.Nat.{◌-◌}
+use native.Mathlib.Omega.{arith}
+use borrow.Author.Rules.{rules}
+use lib.ListN.{length, set, length-set}
+use lib.Seq.{length-take-le}
+use Rattle.check_settings.proofs.show_many.Given as goal
+
+abbrev pub invariant-loop-at : goal.invariant-loop-at
+invariant-loop-at l = length text ≡ 4369
+
+abbrev pub decreases-loop-at : goal.decreases-loop-at
+decreases-loop-at l = 4369 - at

@@ -1,0 +1,20 @@
+-- `row_value::sum` meets its contract. Assumes nothing.
+use Rattle.arithmetic.proofs.Words.{kept, kept_fit}
+use borrow.Author.Rules.{rules}
+use Rattle.row_value.proofs.sum.Goals as goal
+
+pub sum-requires : goal.sum-requires
+sum-requires c =
+    let b = c in
+    let s = b in
+    let l = kept_fit b.bring-n.ensures.left s.requires.left_fits in
+    let r = kept_fit b.bring-n.ensures.right s.requires.right_fits in
+    rw (l, r) (s.requires.left_fits, s.requires.right_fits)
+
+pub returns : goal.returns
+returns c =
+    let b = c in
+    let s = b in
+    let l = kept_fit b.bring-n.ensures.left s.requires.left_fits in
+    let r = kept_fit b.bring-n.ensures.right s.requires.right_fits in
+    rw (kept c.sum.result c.sum.type_inv, c.sum.ensures, l, r)

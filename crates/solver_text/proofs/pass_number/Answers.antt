@@ -1,0 +1,20 @@
+-- `solver_text::pass_number` meets its contract. Assumes nothing.
+use mathlib.Core.Path.{sym, ◌∙◌}
+use mathlib.Core.List.{[], ◌∷◌}
+use Rattle.sheet.specs.Texts.{decimal}
+use Rattle.solver_text.proofs.Passing.{pass_then, pass_stops}
+use borrow.Author.Rules.{rules}
+use Rattle.solver_text.proofs.pass_number.Goals as goal
+
+pub returns-in_default : goal.returns-in_default
+returns-in_default c =
+    let e = c in
+    let s = e.args in
+    sym (pass_stops (decimal s.n) s.at s.text.now (32 ∷ []) (sym e.pass_decimal-step.ensures ∙ c.in_default.is))
+
+pub returns : goal.returns
+returns c =
+    let k = c in
+    let e = k in
+    let s = e.args in
+    c.pass_byte.ensures ∙ sym (pass_then (decimal s.n) s.at s.text.now (32 ∷ []) _ (sym e.pass_decimal-step.ensures ∙ k.in-Next.is))

@@ -1,0 +1,59 @@
+-- `solver_text::put_model` meets its contract. Assumes nothing.
+use mathlib.Core.Path.{◌≡◌, refl}
+use mathlib.Core.Bool.{true}
+use mathlib.Core.List.{List}
+use Prim.Native.Nat.{ℕ, ◌+◌, ◌-◌, ◌≤◌, ◌<◌}
+use native.Mathlib.Nat.{sub-zero}
+use native.Mathlib.Omega.{arith}
+use borrow.Author.Rules.{rules}
+use lib.ListN.{length, drop, length-set}
+use Rattle.frame.specs.Frame.{front, over}
+use Rattle.frame.proofs.Frames.{over_zero, over_none, over-set}
+use Rattle.sheet.specs.Texts.{sign_at, signs_in, starts}
+use Rattle.solver_text.proofs.Variables.{variable_here, line_here, signs_more, signs_end, stands_next, stands_within}
+use Rattle.solver_text.proofs.put_model.Invariants.{Left}
+use Rattle.solver_text.proofs.put_model.Goals as goal
+
+pub loop-i-init : goal.loop-i-init
+loop-i-init c =
+    let s = c in
+    (refl, record { within = omega arith; long = refl; stands = rw sub-zero s.requires.starts_is; left = rw sub-zero (over_zero _ _) })
+
+pub overflow_add-at : goal.overflow_add-at
+overflow_add-at c =
+    let t = c in
+    let s = t.args in
+    let text = s.text.now in
+    let i = t.loop-i.i in
+    let at = t.loop-i.at in
+    let inv = t.loop-i.invariant.1 in
+    let h : i < s.variables = omega arith in
+    let e : c.variable_length-at.result ≡ length (variable_here text s.variables i at) = rw c.sign_at-sign.ensures at c.variable_length-at.ensures in
+    omega (arith, e, stands_within text s.variables i at h inv.stands)
+
+pub loop-i-preserved : goal.loop-i-preserved
+loop-i-preserved c =
+    let t = c in
+    let s = t.args in
+    let text = s.text.now in
+    let i = t.loop-i.i in
+    let at = t.loop-i.at in
+    let inv = t.loop-i.invariant.1 in
+    let h : i < s.variables = omega arith in
+    let e : c.variable_length-at.result ≡ length (variable_here text s.variables i at) = rw c.sign_at-sign.ensures at c.variable_length-at.ensures in
+    let k : i < length t.loop-i.model = omega arith in
+    let rest = signs_in (s.variables - (i + 1)) (i + 1 + 1) (drop (at + length (variable_here text s.variables i at)) text) in (
+      t.loop-i.invariant.0,
+      rw e (record {
+        within = omega arith;
+        long = simp length-set inv.long;
+        stands = stands_next text s.variables i at h inv.stands;
+        left = rw (c.sign_at-sign.ensures, over-set i (sign_at (drop at text)) rest t.loop-i.model k, ← signs_more text s.variables i at h) inv.left;
+      }),
+    )
+
+pub returns : goal.returns
+returns c =
+    let t = c in
+    let s = t.args in
+    rw (signs_end s.text.now s.variables t.loop-i.i t.loop-i.at (omega arith), over_none) at t.loop-i.invariant.1.left

@@ -1,0 +1,11 @@
+-- `value_examples::write_numbers` is safe and ends. Assumes nothing.
+use Prim.Native.Nat.{◌-◌}
+use native.Mathlib.Omega.{arith}
+use borrow.Author.Rules.{rules}
+use Rattle.value_examples.proofs.write_numbers.Goals as goal
+
+pub loop-i-init : goal.loop-i-init
+loop-i-init c = tt
+
+pub loop-i-preserved : goal.loop-i-preserved
+loop-i-preserved c = tt
