@@ -15,7 +15,7 @@ use Rattle.sheet.specs.declared.Measured.TheVariants.{Counted}
 use Rattle.sheet.specs.declared.Answer.{Answer}
 use Rattle.sheet.specs.declared.Answer.TheVariants.{Done}
 use Rattle.sheet.specs.declared.Extended.TheVariants.{Constraint}
-use Rattle.sheet.specs.Values.{unknowns, Chosen}
+use Rattle.sheet.specs.Values.{Chosen}
 use Rattle.sheet.specs.Acceptance.{Outcome, accepted, Sheet, accept}
 use Rattle.sheet.specs.Steps.{settings, extension}
 use Rattle.sheet.specs.Calls.{row_count, checking, writing, choosing, extending, decoding, left, model_of, settings_of, constraint}

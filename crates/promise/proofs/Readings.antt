@@ -7,7 +7,7 @@ use Prim.Native.Nat.{ℕ}
 use lib.IntN.{ℤ}
 use Rattle.circuit.specs.declared.Counts.{Counts}
 use Rattle.circuit.specs.Literals.{truth, Assignment, lit_true, all_true}
-use Rattle.circuit.specs.Circuits.{gates, out}
+use Rattle.circuit.specs.Circuits.{gates}
 use Rattle.circuit.specs.Counting.{◌⊕◌, the_first}
 use Rattle.circuit.proofs.Assignments.{Holds, holds_of, frees, frees_length}
 use Rattle.circuit.proofs.Meaning.{Sem, sem_ret, sem_new, sem_bind, sound}

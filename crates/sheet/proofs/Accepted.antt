@@ -22,7 +22,6 @@ use Rattle.sheet.specs.declared.Verdict.TheVariants.{Pass, Stop}
 use Rattle.sheet.specs.Rows.{read_row, and_rows, rows_of, uses}
 use Rattle.sheet.specs.Acceptance.{out_of_range, sorts_in, some_not_earlier, some_of_wrong_sort, Plan, meeting, larger, plan_by, stop◌if◌else◌, record_by, record_at, judge, Outcome, refused, accepted, Sheet, onward, walk, accept}
 -- named so that the examples are checked before every law: a wrong definition is refused first by what an example computes
-use Rattle.sheet.specs.Examples
 use Rattle.sheet.proofs.Called.{refused_not, same_accepted}
 
 -- what is said of the records of the rows x and y, by their numbers
