@@ -3,7 +3,7 @@
 
 ghost use Rattle.std.specs.Prelude.{◌≡◌, pos, ◌+ℤ◌, ◌-ℤ◌, ◌*ℤ◌};
 ghost use Rattle.std.specs.Int.Signed.{lt_z};
-ghost use Rattle.whole.specs.Tests.{if◌then◌else◌, eq_z};
+ghost use Rattle.whole.specs.Tests.{if◌then◌otherwise◌, eq_z};
 ghost use Rattle.whole.specs.Bits.{Fits};
 
 // The numerator a over a denominator that is `factor` times as large.
@@ -39,7 +39,7 @@ pub fn product(a: i64, b: i64) -> i64
 
 // a if c, else b.
 pub fn choice(c: bool, a: i64, b: i64) -> i64
-    ensures { result ≡ (if c then a else b) }
+    ensures { result ≡ (if c then a otherwise b) }
 {
     if c { a } else { b }
 }

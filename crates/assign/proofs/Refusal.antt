@@ -7,7 +7,7 @@ use native.Mathlib.Omega.{arith}
 use lib.IntN.{ℤ, pos}
 use lib.ListN.{length, take}
 use lib.Seq.{take-append_seam}
-use Rattle.whole.specs.Tests.{if◌then◌else◌}
+use Rattle.whole.specs.Tests.{if◌then◌otherwise◌}
 use Rattle.circuit.specs.Literals.{plus, minus, Clause, slot, slots_of}
 use Rattle.sheet.specs.Values.{every}
 use Rattle.sheet.specs.Acceptance.{refused, accepted}
@@ -38,13 +38,13 @@ at_least n (false ∷ bs) = omega arith
 pub none_false : (bs : List Bool) → first_false bs ≡ 0 → (refuse 19 counting 1 unless bs) ≡ accepted tt
 none_false bs e = rw (first_false_lem 1 bs) (by (every bs) e)
   where
-    by : (b : Bool) → (if b then 0 else false_at 1 bs) ≡ 0 → (refuse 19 at false_at 1 bs if not b) ≡ accepted tt
+    by : (b : Bool) → (if b then 0 otherwise false_at 1 bs) ≡ 0 → (refuse 19 at false_at 1 bs if not b) ≡ accepted tt
     by true e = refl
     by false e = absurd (omega (arith, at_least 1 bs))
 
 pub some_false : (bs : List Bool) → (first_false bs ≡ 0 → ⊥) → (refuse 19 counting 1 unless bs) ≡ refused 19 (first_false bs)
 some_false bs e = rw (first_false_lem 1 bs) (by (every bs) e)
   where
-    by : (b : Bool) → ((if b then 0 else false_at 1 bs) ≡ 0 → ⊥) → (refuse 19 at false_at 1 bs if not b) ≡ refused 19 (if b then 0 else false_at 1 bs)
+    by : (b : Bool) → ((if b then 0 otherwise false_at 1 bs) ≡ 0 → ⊥) → (refuse 19 at false_at 1 bs if not b) ≡ refused 19 (if b then 0 otherwise false_at 1 bs)
     by true e = absurd (e refl)
     by false e = refl

@@ -8,7 +8,7 @@ use native.Mathlib.Numerals.{add-one}
 use lib.IntN.{ℤ, pos, negsuc}
 use lib.ListN.{length, get_or, drop}
 use lib.Seq.{drop-cons}
-use Rattle.whole.specs.Tests.{if◌then◌else◌}
+use Rattle.whole.specs.Tests.{if◌then◌otherwise◌}
 use Rattle.circuit.specs.Literals.{Lit, plus, minus, Clause, Assignment, lit_true, clause_true}
 use Rattle.sheet.specs.Values.{every}
 use Rattle.sheet.specs.Calls.{false_at, assigned}
@@ -20,15 +20,15 @@ use Rattle.assign.specs.Clauses.{onto, clauses_in, turned}
 -- the first false clause, where the first has the number n, and t says whether a true literal of it was met before
 abbrev pub first_from : Assignment → (n : ℕ) → (t : Bool) → List Clause → ℕ
 first_from a n t [] = 0
-first_from a n t (c ∷ cs) = if t || clause_true a c then first_from a (n + 1) false cs else n
+first_from a n t (c ∷ cs) = if t || clause_true a c then first_from a (n + 1) false cs otherwise n
 
 pub from_one : (a : Assignment) (n : ℕ) (cs : List Clause)
-    → first_from a n false cs ≡ (if every (map (clause_true a) cs) then 0 else false_at n (map (clause_true a) cs))
+    → first_from a n false cs ≡ (if every (map (clause_true a) cs) then 0 otherwise false_at n (map (clause_true a) cs))
 from_one a n [] = refl
 from_one a n (c ∷ cs) = by (clause_true a c) (from_one a (n + 1) cs)
   where
-    by : (b : Bool) → first_from a (n + 1) false cs ≡ (if every (map (clause_true a) cs) then 0 else false_at (n + 1) (map (clause_true a) cs))
-        → (if b then first_from a (n + 1) false cs else n) ≡ (if every (b ∷ map (clause_true a) cs) then 0 else false_at n (b ∷ map (clause_true a) cs))
+    by : (b : Bool) → first_from a (n + 1) false cs ≡ (if every (map (clause_true a) cs) then 0 otherwise false_at (n + 1) (map (clause_true a) cs))
+        → (if b then first_from a (n + 1) false cs otherwise n) ≡ (if every (b ∷ map (clause_true a) cs) then 0 otherwise false_at n (b ∷ map (clause_true a) cs))
     by true e = e
     by false e = refl
 

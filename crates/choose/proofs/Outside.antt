@@ -8,7 +8,7 @@ use native.Mathlib.Omega.{arith}
 use lib.IntN.{ℤ, pos}
 use lib.ListN.{length, get_or, drop}
 use lib.Seq.{drop-drop}
-use Rattle.whole.specs.Tests.{if◌then◌else◌}
+use Rattle.whole.specs.Tests.{if◌then◌otherwise◌}
 use Rattle.whole.specs.Bits.{bit}
 use Rattle.circuit.specs.declared.Counts.{Counts}
 use Rattle.sheet.specs.declared.Fields.{Fields}
@@ -31,7 +31,7 @@ module _ (f : Fields) (rows : List Fields) where
   u = uses f.kind
 
   abbrev rest : Bool → List Fields
-  rest b = if b then f ∷ unknowns rows else unknowns rows
+  rest b = if b then f ∷ unknowns rows otherwise unknowns rows
 
   more_by : (b : Bool) (i : ℕ) (vs : List ℤ) → length vs ≡ length (rest b) → in_bits u f.p (first vs) ≡ true
       → (length (drop (bit b) vs) ≡ length (unknowns rows)) × (false_at (i + bit b) (each_in_bits (unknowns rows) (drop (bit b) vs)) ≡ false_at i (each_in_bits (rest b) vs))

@@ -1,6 +1,6 @@
 -- What gates and circuits count: variables, clauses and slots, by the steps. Assumes nothing.
 use Rattle.std.specs.Prelude.{ℕ, ◌+◌, ◌-◌, ◌*◌, ◌/◌, eqb, pos}
-use Rattle.whole.specs.Tests.{if◌then◌else◌}
+use Rattle.whole.specs.Tests.{if◌then◌otherwise◌}
 use Rattle.whole.specs.Bits.{fewest}
 use Rattle.circuit.specs.declared.Counts.{Counts}
 
@@ -50,10 +50,10 @@ a_product w = counts 0 (2 * (w * w) - w) ((17 * (w * w) - 11 * w) / 2) (33 * (w 
 
 -- the width of a number of w bits multiplied by a factor as by a constant, unless that is 1; and what this counts
 unfoldable pub expanded_width : (w factor : ℕ) → ℕ
-expanded_width w f = if eqb f 1 then w else w + fewest (pos f)
+expanded_width w f = if eqb f 1 then w otherwise w + fewest (pos f)
 
 unfoldable pub an_expansion : (w factor : ℕ) → Counts
-an_expansion w f = if eqb f 1 then nothing else a_product (w + fewest (pos f))
+an_expansion w f = if eqb f 1 then nothing otherwise a_product (w + fewest (pos f))
 
 -- variable 1 and the first clause; the last clause
 abbrev pub the_first : Counts

@@ -1,7 +1,7 @@
 -- What is proved of gates and circuits, over every width: wherever their clauses are true, they give the exact result. Assumes nothing.
 use Rattle.std.specs.Prelude.{◌≡◌, ◌↔◌, true, false, List, map, ℕ, ◌<◌, length, get_or, ℤ, pos, ◌+ℤ◌, ◌-ℤ◌, ◌*ℤ◌}
 use Rattle.std.specs.Int.Signed.{lt_z}
-use Rattle.whole.specs.Tests.{if◌then◌else◌, eq_z}
+use Rattle.whole.specs.Tests.{if◌then◌otherwise◌, eq_z}
 use Rattle.whole.specs.Bits.{to_int}
 use Rattle.circuit.specs.Literals.{Lit, truth, Assignment, lit_true, all_true}
 use Rattle.circuit.specs.Gates.{Gate, gate_clauses, gate_val}
@@ -45,7 +45,7 @@ ExpansionExact =
 abbrev pub ChoiceExact : Type 0
 ChoiceExact =
     (s : Assignment) (n : ℕ) (c : Lit) (xs ys : List Lit) → 0 < length xs → 0 < length ys → Meets s n (choice c xs ys)
-    → number s (out n (choice c xs ys)) ≡ (if lit_true s c then number s xs else number s ys)
+    → number s (out n (choice c xs ys)) ≡ (if lit_true s c then number s xs otherwise number s ys)
 
 abbrev pub GreaterExact : Type 0
 GreaterExact =

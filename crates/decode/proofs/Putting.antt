@@ -6,7 +6,7 @@ use Prim.Native.Nat.{ℕ, ◌+◌, ◌≤◌, ◌<◌}
 use native.Mathlib.Omega.{arith}
 use lib.IntN.{ℤ}
 use lib.ListN.{length, get_or, length-append}
-use Rattle.whole.specs.Tests.{if◌then◌else◌}
+use Rattle.whole.specs.Tests.{if◌then◌otherwise◌}
 use Rattle.circuit.specs.declared.Counts.{Counts}
 use Rattle.sheet.specs.declared.Fields.{Fields}
 use Rattle.sheet.specs.declared.Record.{Record}
@@ -31,7 +31,7 @@ few_settings (f ∷ fs) [] = omega arith
 few_settings (f ∷ fs) (v ∷ vs) = by (is_unknown (uses f.kind)) (few_settings fs vs)
   where
     by : (b : Bool) → length (of_unknowns fs vs) ≤ length (unknowns fs)
-        → length (if b then numerator v ∷ of_unknowns fs vs else of_unknowns fs vs) ≤ length (if b then f ∷ unknowns fs else unknowns fs)
+        → length (if b then numerator v ∷ of_unknowns fs vs otherwise of_unknowns fs vs) ≤ length (if b then f ∷ unknowns fs otherwise unknowns fs)
     by true h = omega arith
     by false h = h
 

@@ -8,7 +8,7 @@ use native.Mathlib.Numerals.{add-one}
 use lib.IntN.{ℤ}
 use lib.ListN.{length, get_or, take, drop, length-append, length-drop, length-map}
 use lib.Seq.{drop-cons, take-take}
-use Rattle.whole.specs.Tests.{if◌then◌else◌}
+use Rattle.whole.specs.Tests.{if◌then◌otherwise◌}
 use Rattle.circuit.specs.Literals.{Lit, plus, minus, falsity, slot}
 use Rattle.circuit.specs.Circuits.{gates}
 use Rattle.circuit.specs.Counting.{the_first}
@@ -45,7 +45,7 @@ module _ (table : List ℕ) (r : ℕ) (of : Record) (map : List ℤ) (model : Li
   unfolding setting_in
   setting_some e = rw e
 
-one_more : (b : Bool) (x : ℤ) (xs : List ℤ) → (if b then x ∷ xs else xs) ≡ (if b then x ∷ [] else []) ++ xs
+one_more : (b : Bool) (x : ℤ) (xs : List ℤ) → (if b then x ∷ xs otherwise xs) ≡ (if b then x ∷ [] otherwise []) ++ xs
 one_more true x xs = refl
 one_more false x xs = refl
 

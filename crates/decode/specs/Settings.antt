@@ -1,7 +1,7 @@
 -- The setting of one row, and what the loop over the rows asks: a table whose literal map is written, and a model of its variables.
 -- Assumes nothing.
 use Rattle.std.specs.Prelude.{◌≡◌, true, List, [], ◌∷◌, ◌++◌, ℕ, ◌+◌, ◌*◌, ◌≤◌, ◌<◌, ℤ, length, take, drop}
-use Rattle.whole.specs.Tests.{if◌then◌else◌}
+use Rattle.whole.specs.Tests.{if◌then◌otherwise◌}
 use Rattle.sheet.specs.declared.Record.{Record}
 use Rattle.sheet.specs.Values.{numerator}
 use Rattle.sheet.specs.Steps.{read_as, map_for}
@@ -15,7 +15,7 @@ use Rattle.bits.specs.Readings.{Page}
 -- one number if row r is an unknown, else none: what the literals of its page read as
 unfoldable pub setting_in : (table : List ℕ) (r : ℕ) → Record → List ℤ → (model : List ℕ) → List ℤ
 setting_in table r of map model =
-    if reads_unknown (row_at table r) then numerator (read_as (assigned model) of (literals (take of.width (drop (48 * r) map)))) ∷ [] else []
+    if reads_unknown (row_at table r) then numerator (read_as (assigned model) of (literals (take of.width (drop (48 * r) map)))) ∷ [] otherwise []
 
 -- row r stands in the table and in the map, and there is a place n for its setting
 pub record AtRow (table : List ℕ) (r : ℕ) (of : Record) (map : List ℤ) (variables n room : ℕ) : Type 0 where

@@ -2,7 +2,7 @@
 use mathlib.Core.Bool.{Bool, true, false}
 use native.Mathlib.Omega.{arith}
 use lib.IntN.{ℤ, pos, negsuc, ◌+ℤ◌}
-use Rattle.whole.specs.Tests.{if◌then◌else◌}
+use Rattle.whole.specs.Tests.{if◌then◌otherwise◌}
 use Rattle.whole.specs.Bits.{Fits, odd, half}
 use Rattle.whole.proofs.Bits.{fits_iff}
 use Rattle.whole.proofs.Ranges.{fits_up, sum_fits}
@@ -15,7 +15,7 @@ half_fits_48 (negsuc n) p = fits_iff.1 (omega (arith, fits_iff.0 p))
 pub row_fits_48 : {x : ℤ} (y : ℤ) → Fits 48 x → Fits 48 (row_of x y)
 row_fits_48 {x} y p = by (odd y)
   where
-    by : (b : Bool) → Fits 48 (if b then x else pos 0)
+    by : (b : Bool) → Fits 48 (if b then x otherwise pos 0)
     by true = p
     by false = fits_iff.1 (omega arith)
 

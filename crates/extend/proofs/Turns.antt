@@ -7,7 +7,7 @@ use native.Mathlib.Omega.{arith}
 use borrow.Author.Tests.{ne_eqb}
 use lib.Dec.{eqb}
 use lib.IntN.{ℤ, ◌+ℤ◌}
-use Rattle.whole.specs.Tests.{if◌then◌else◌}
+use Rattle.whole.specs.Tests.{if◌then◌otherwise◌}
 use Rattle.whole.specs.Bits.{odd, half, bits_of}
 use Rattle.circuit.specs.Gates.{xor_of, mux_of, maj_of}
 use Rattle.trace.specs.Traces.{adding, row_of, adding_rows, multiplying, exceeding, equalling}
@@ -36,7 +36,7 @@ comparing g x y z = xor_of (odd x) (odd y) ∷ mux_of (xor_of (odd x) (odd y)) (
 abbrev pub decided : (g : Bool) → (x y z : ℤ) → Bool
 decided g x y z = mux_of (xor_of (odd x) (odd y)) (odd z) g
 
-pub exceeding_turn : (g : Bool) (w : ℕ) (x y : ℤ) {z : ℤ} → 0 < w → z ≡ (if eqb w 1 then y else x)
+pub exceeding_turn : (g : Bool) (w : ℕ) (x y : ℤ) {z : ℤ} → 0 < w → z ≡ (if eqb w 1 then y otherwise x)
     → exceeding g w x y ≡ comparing g x y z ++ exceeding (decided g x y z) (w - 1) (half x) (half y)
 exceeding_turn g zero x y h e = absurd (omega arith)
 exceeding_turn g (suc zero) x y h e = rw e

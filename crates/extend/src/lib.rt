@@ -3,7 +3,7 @@
 #![tactic(auto)]
 
 ghost use Rattle.std.specs.Prelude.{◌≡◌, true, false, not, ◌&&◌, [], ◌∷◌, ◌++◌, ◌+◌, ◌≤◌, eqb, pos, ◌*ℤ◌};
-ghost use Rattle.whole.specs.Tests.{if◌then◌else◌};
+ghost use Rattle.whole.specs.Tests.{if◌then◌otherwise◌};
 ghost use Rattle.whole.specs.Bits.{Fits, odd, half, bits_of};
 ghost use Rattle.circuit.specs.Gates.{xor_of, mux_of, maj_of};
 ghost use Rattle.circuit.specs.Counting.{expanded_width};
@@ -206,7 +206,7 @@ pub fn expand(model: &mut [u8], at: usize, width: u32, factor: u32, numerator: i
 
 // Whose bit decides where x and y differ: x's, and y's at the sign, the last place left.
 fn deciding(left: u32, x: i64, y: i64) -> i64
-    ensures { result ≡ (if eqb left 1 then y else x) }
+    ensures { result ≡ (if eqb left 1 then y otherwise x) }
 {
     if left == 1 { y } else { x }
 }

@@ -6,7 +6,7 @@ use Prim.Native.Nat.{ℕ, ◌+◌, ◌/◌, ◌≤◌}
 use native.Mathlib.Omega.{arith}
 use lib.Dec.{eqb}
 use lib.IntN.{pos}
-use Rattle.whole.specs.Tests.{if◌then◌else◌, eq_z}
+use Rattle.whole.specs.Tests.{if◌then◌otherwise◌, eq_z}
 use Rattle.whole.specs.Bits.{fewest}
 use Rattle.whole.proofs.Tests.{bit_true}
 use Rattle.whole.proofs.Ranges.{fits_up}
@@ -38,7 +38,7 @@ wide_least : (w f : ℕ) → w ≤ expanded_width w f
 unfolding expanded_width
 wide_least w f = by (eqb f 1)
   where
-    by : (b : Bool) → w ≤ (if b then w else w + fewest (pos f))
+    by : (b : Bool) → w ≤ (if b then w otherwise w + fewest (pos f))
     by true = omega arith
     by false = omega arith
 

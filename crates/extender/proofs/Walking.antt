@@ -9,7 +9,7 @@ use lib.Dec.{ltb}
 use lib.IntN.{ℤ, pos}
 use lib.ListN.{length, get_or, take, drop, get_or-eq_default, get_or-append, get_or-map}
 use lib.Seq.{get_or-take, drop-drop, length-take-le}
-use Rattle.whole.specs.Tests.{if◌then◌else◌}
+use Rattle.whole.specs.Tests.{if◌then◌otherwise◌}
 use Rattle.whole.specs.Bits.{bit}
 use Rattle.circuit.specs.declared.Counts.{Counts}
 use Rattle.sheet.specs.declared.Fields.{Fields}
@@ -140,7 +140,7 @@ module _ {table : List ℕ} {rows : ℕ} {records : List Record} {results values
     pub walking_stands : (x : ℕ) {i : ℕ} {n : ℤ} {o : Operand} → i ≡ min x r → n ≡ get_or results i (pos 0) → Referred r x (get_or records i zeros) n o → Stands before p.earlier x o
     walking_stands x {i} {n} {o} j m q = by (ltb x r) refl q.is_record q.is_numerator
       where
-        by : (t : Bool) → ltb x r ≡ t → o.record ≡ (if t then get_or records i zeros else missing) → o.numerator ≡ (if t then n else pos 0) → Stands before p.earlier x o
+        by : (t : Bool) → ltb x r ≡ t → o.record ≡ (if t then get_or records i zeros otherwise missing) → o.numerator ≡ (if t then n otherwise pos 0) → Stands before p.earlier x o
         by true k e f =
             let l = ltb-true x r k in
             let same : i ≡ x = omega arith in

@@ -1,6 +1,6 @@
 -- Parts of the paper's judgement of a row, for the functions that judge it. Assumes nothing.
 use Rattle.std.specs.Prelude.{Bool, false, not, ◌||◌, List, [], ◌∷◌, ℕ, ◌+◌, eqb, ltb}
-use Rattle.whole.specs.Tests.{if◌then◌else◌}
+use Rattle.whole.specs.Tests.{if◌then◌otherwise◌}
 use Rattle.circuit.specs.declared.Counts.{Counts}
 use Rattle.circuit.specs.Counting.{◌⊕◌, times}
 use Rattle.sheet.specs.declared.Record.{Record}
@@ -16,7 +16,7 @@ some_other (s ∷ sorts) (t ∷ ss) = not (eqb t s) || some_other sorts ss
 
 -- the refusal of a row's operands, 0 where there is none: the rows xs, of the sorts ss, which are to be those of `sorts`
 unfoldable pub refusal_of : (rows : ℕ) (sorts xs ss : List ℕ) → ℕ
-refusal_of rows sorts xs ss = if some_not_earlier rows sorts xs then 6 else if some_other sorts ss then 7 else 0
+refusal_of rows sorts xs ss = if some_not_earlier rows sorts xs then 6 otherwise if some_other sorts ss then 7 otherwise 0
 
 -- the end of the judgement: 8 and 9, then the record
 unfoldable pub settled : (first : ℕ) → Plan → Verdict
@@ -25,4 +25,4 @@ settled first m = stop 8 if ltb 4096 m.common else stop 9 if ltb 48 m.widest els
 -- a and b brought together, to a comparison (sort 0) or a number: at the larger width and so many bits more, each bit counting `bit`
 unfoldable pub combined_plan : (sort wider : ℕ) (bit : Counts) (a b : Record) → Plan
 combined_plan sort wider bit a b =
-    (if eqb sort 0 then comparison_plan else number_plan) (larger a b + wider) (meeting a b) (bringing a b ⊕ times (larger a b + wider) bit)
+    (if eqb sort 0 then comparison_plan otherwise number_plan) (larger a b + wider) (meeting a b) (bringing a b ⊕ times (larger a b + wider) bit)

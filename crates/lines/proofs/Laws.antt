@@ -9,7 +9,7 @@ use borrow.Author.Tests.{ltb-true, lt-ltb}
 use lib.Dec.{ltb, eqb}
 use lib.ListN.{length, get_or, drop, drop_of_length-le}
 use lib.Seq.{drop-cons, drop-drop, get_or-drop}
-use Rattle.whole.specs.Tests.{if◌then◌else◌}
+use Rattle.whole.specs.Tests.{if◌then◌otherwise◌}
 use Rattle.sheet.specs.Acceptance.{refused}
 use Rattle.sheet.specs.Texts.{nibble, begins_line, bytes_in, table_in, lines, lines_from}
 
@@ -91,7 +91,7 @@ module _ (blank : Bool) (n at : ℕ) (text : List ℕ) (e : at ≡ 17 * n) where
       rw (k, drop-cons text at 0 h, w)
 
   pub lines_more : n < 256 → at < length text → (blank && eqb (get_or text at 0) 10) ≡ false
-      → lines_from (256 - n) blank n (drop at text) ≡ (if begins_line 16 (drop at text) then lines_from (256 - (n + 1)) blank (n + 1) (drop (at + 17) text) else refused 20 n)
+      → lines_from (256 - n) blank n (drop at text) ≡ (if begins_line 16 (drop at text) then lines_from (256 - (n + 1)) blank (n + 1) (drop (at + 17) text) otherwise refused 20 n)
   unfolding lines_from
   lines_more l h w =
       let k : 256 - n ≡ suc (256 - (n + 1)) = omega arith in

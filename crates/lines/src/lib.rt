@@ -2,7 +2,7 @@
 #![tactic(auto)]
 
 ghost use Rattle.std.specs.Prelude.{◌≡◌, true, false, ◌&&◌, ◌≤◌, ◌+◌, ◌-◌, ◌*◌, ◌%◌, ltb, eqb, length};
-ghost use Rattle.whole.specs.Tests.{if◌then◌else◌};
+ghost use Rattle.whole.specs.Tests.{if◌then◌otherwise◌};
 ghost use Rattle.frame.specs.Frame.{front};
 ghost use Rattle.sheet.specs.Calls.{left, found};
 ghost use Rattle.sheet.specs.Texts.{nibble as Texts·nibble, begins_line, bytes_in, table_in, lines_from, read_lines};
@@ -12,7 +12,7 @@ use sheet::{LinesFound, LinesRead};
 
 // What a decimal digit stands for; 16 for any other byte.
 fn decimal(b: u8) -> u8
-    ensures result_is { result ≡ (if ltb b 48 then 16 else if ltb b 58 then b - 48 else 16) }
+    ensures result_is { result ≡ (if ltb b 48 then 16 otherwise if ltb b 58 then b - 48 otherwise 16) }
     ensures result_most { result ≤ 16 }
 {
     if b < 48 {

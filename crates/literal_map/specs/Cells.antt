@@ -1,6 +1,6 @@
 -- A row's cell as the literal map and its record have it. Assumes nothing.
 use Rattle.std.specs.Prelude.{◌≡◌, List, [], ◌∷◌, ℕ, ◌+◌, ◌*◌, ◌≤◌, ◌<◌, ltb, ℤ, length, take, drop}
-use Rattle.whole.specs.Tests.{if◌then◌else◌}
+use Rattle.whole.specs.Tests.{if◌then◌otherwise◌}
 use Rattle.circuit.specs.Literals.{falsity}
 use Rattle.sheet.specs.declared.Record.{Record}
 use Rattle.sheet.specs.Acceptance.{missing}
@@ -14,7 +14,7 @@ cell_in map x r = cell (literals (take r.width (drop (48 * x) map))) r.denominat
 
 -- a row that is not among the first is false
 unfoldable pub cell_or : List ℤ → (rows x : ℕ) → Record → Cell
-cell_or map rows x r = if ltb x rows then cell_in map x r else cell (falsity ∷ []) 1
+cell_or map rows x r = if ltb x rows then cell_in map x r otherwise cell (falsity ∷ []) 1
 
 pub record InMap (map : List ℤ) (x : ℕ) (r : Record) : Type 0 where
   pub some : 1 ≤ r.width
@@ -23,7 +23,7 @@ pub record InMap (map : List ℤ) (x : ℕ) (r : Record) : Type 0 where
   pub all : AllLit r.width (drop (48 * x) map)
 
 abbrev pub record_or : (rows x : ℕ) → Record → Record
-record_or rows x r = if ltb x rows then r else missing
+record_or rows x r = if ltb x rows then r otherwise missing
 
 -- the map has the literals of row x if it is among the first
 abbrev pub Held : List ℤ → (rows x : ℕ) → Record → Type 0

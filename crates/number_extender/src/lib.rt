@@ -3,7 +3,7 @@
 #![tactic(auto)]
 
 ghost use Rattle.std.specs.Prelude.{◌≡◌, true, false, ◌++◌, max, ◌+◌};
-ghost use Rattle.whole.specs.Tests.{if◌then◌else◌};
+ghost use Rattle.whole.specs.Tests.{if◌then◌otherwise◌};
 ghost use Rattle.whole.specs.Bits.{bits_of};
 ghost use Rattle.trace.specs.Traces.{adding, multiplying, exceeding, equalling, turned};
 ghost use Rattle.extend.specs.Bytes.{Room, Put};
@@ -106,8 +106,8 @@ pub fn product(model: &mut [u8], at: usize, a: Operand, b: Operand) -> usize
 // The number b if a holds, else c.
 pub fn choice(model: &mut [u8], at: usize, a: Operand, b: Operand, c: Operand) -> usize
     requires meeting_b_c { Meeting b c }
-    requires room { Room at (both_brought b c ++ bits_of (common_width b c) (if is_true a then left b c else right b c)) model.old }
-    ensures { Put at (both_brought b c ++ bits_of (common_width b c) (if is_true a then left b c else right b c)) model.old model.new result }
+    requires room { Room at (both_brought b c ++ bits_of (common_width b c) (if is_true a then left b c otherwise right b c)) model.old }
+    ensures { Put at (both_brought b c ++ bits_of (common_width b c) (if is_true a then left b c otherwise right b c)) model.old model.new result }
 {
     let p = bring(model, at, b, c);
     extend::put_bits(

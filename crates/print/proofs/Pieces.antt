@@ -8,7 +8,7 @@ use borrow.Author.Tests.{eq-eqb, ne_eqb, lt-ltb, le-ltb}
 use lib.Dec.{eqb}
 use lib.IntN.{ℤ, pos, nat_abs}
 use lib.ListN.{length, get_or, length-append, length-map}
-use Rattle.whole.specs.Tests.{if◌then◌else◌}
+use Rattle.whole.specs.Tests.{if◌then◌otherwise◌}
 use Rattle.frame.specs.Frame.{front}
 use Rattle.frame.proofs.Frames.{over_zero}
 use Rattle.sheet.specs.Acceptance.{Sheet}
@@ -63,7 +63,7 @@ pub length-slot : (z : ℤ) → length (slot_text z) ≤ 22
 unfolding slot_text
 length-slot z = by (eqb (nat_abs z) 0)
   where
-    by : (b : Bool) → length (signed z ++ (if b then ascii "\n" else ascii " ")) ≤ 22
+    by : (b : Bool) → length (signed z ++ (if b then ascii "\n" otherwise ascii " ")) ≤ 22
     by true = rw (length-append (signed z) (10 ∷ [])) (omega (arith, length-signed z))
     by false = rw (length-append (signed z) (32 ∷ [])) (omega (arith, length-signed z))
 

@@ -1,7 +1,7 @@
 -- A text in pieces, printed page by page into a lent buffer: a page takes pieces as long as 64 bytes are left for one, and no piece
 -- is longer. Assumes nothing.
 use Rattle.std.specs.Prelude.{List, [], ◌∷◌, ◌++◌, ℕ, zero, suc, ◌+◌, ◌-◌, ltb, length, take, drop}
-use Rattle.whole.specs.Tests.{if◌then◌else◌}
+use Rattle.whole.specs.Tests.{if◌then◌otherwise◌}
 use Rattle.frame.specs.Frame.{front}
 use Rattle.print.specs.declared.Page.{Page}
 
@@ -13,7 +13,7 @@ joined (piece ∷ pieces) = piece ++ joined pieces
 -- how many pieces a page takes, and its text
 unfoldable pub fitting : List (List ℕ) → (room : ℕ) → ℕ
 fitting [] room = 0
-fitting (piece ∷ pieces) room = if ltb room 64 then 0 else suc (fitting pieces (room - length piece))
+fitting (piece ∷ pieces) room = if ltb room 64 then 0 otherwise suc (fitting pieces (room - length piece))
 
 unfoldable pub page_text : List (List ℕ) → (room : ℕ) → List ℕ
 page_text pieces room = joined (take (fitting pieces room) pieces)

@@ -8,7 +8,7 @@ use native.Mathlib.Omega.{arith}
 use lib.Dec.{eqb, ltb}
 use lib.ListN.{take, drop}
 use lib.Seq.{get_or-take}
-use Rattle.whole.specs.Tests.{if◌then◌else◌}
+use Rattle.whole.specs.Tests.{if◌then◌otherwise◌}
 use Rattle.sheet.specs.declared.LinesFound.{LinesFound}
 use Rattle.sheet.specs.Acceptance.{Outcome, refused, accepted}
 use Rattle.sheet.specs.Calls.{◌>>=◌}
@@ -52,8 +52,8 @@ module _ (blank : Bool) (n : ℕ) where
   one_more_cut more (suc k) (b ∷ text) h d =
       let all = b ∷ text in
       let ends = blank && eqb b 10 in
-      ap (λ (u : Bool). if ends then lines n (17 * n + 1) true else if u then lines_from more blank (n + 1) (drop 17 (take (suc k) all)) else refused 20 n) (begins_cut 16 (suc k) all h)
-      ∙ ap (λ (o : Outcome LinesFound). if ends then lines n (17 * n + 1) true else if begins_line 16 all then o else refused 20 n) d
+      ap (λ (u : Bool). if ends then lines n (17 * n + 1) true otherwise if u then lines_from more blank (n + 1) (drop 17 (take (suc k) all)) otherwise refused 20 n) (begins_cut 16 (suc k) all h)
+      ∙ ap (λ (o : Outcome LinesFound). if ends then lines n (17 * n + 1) true otherwise if begins_line 16 all then o otherwise refused 20 n) d
 
 lines_cut : (more : ℕ) (blank : Bool) (n k : ℕ) (text : List ℕ) → 17 * more < k → lines_from more blank n (take k text) ≡ lines_from more blank n text
 lines_cut zero blank n k text h = no_more_cut blank n k text (omega arith)

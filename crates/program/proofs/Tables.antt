@@ -8,7 +8,7 @@ use borrow.Author.Tests.{ltb-false}
 use lib.Dec.{eqb, ltb}
 use lib.ListN.{length, take, drop, length-append}
 use lib.Seq.{take_at}
-use Rattle.whole.specs.Tests.{if◌then◌else◌}
+use Rattle.whole.specs.Tests.{if◌then◌otherwise◌}
 use Rattle.sheet.specs.declared.LinesFound.{LinesFound}
 use Rattle.sheet.specs.Acceptance.{Outcome, refused, accepted, Sheet, accept}
 use Rattle.sheet.specs.Calls.{left}
@@ -33,14 +33,14 @@ unfolding lines_from
 few_lines zero blank n [] l e = omega (arith, found_here e)
 few_lines zero blank n (b ∷ text) l e = by (blank && eqb b 10) e
   where
-    by : (t : Bool) → (if t then lines n (17 * n + 1) true else refused 2 0) ≡ accepted l → l.rows ≤ n + 0
+    by : (t : Bool) → (if t then lines n (17 * n + 1) true otherwise refused 2 0) ≡ accepted l → l.rows ≤ n + 0
     by true f = omega (arith, found_here f)
     by false f = refused_not f
 few_lines (suc more) blank n [] l e = omega (arith, found_here e)
 few_lines (suc more) blank n (b ∷ text) l e =
     by (blank && eqb b 10) (begins_line 16 (b ∷ text)) (lines_from more blank (n + 1) (drop 17 (b ∷ text))) (few_lines more blank (n + 1) (drop 17 (b ∷ text)) l) e
   where
-    by : (t u : Bool) (o : Outcome LinesFound) → (o ≡ accepted l → l.rows ≤ n + 1 + more) → (if t then lines n (17 * n + 1) true else if u then o else refused 20 n) ≡ accepted l
+    by : (t u : Bool) (o : Outcome LinesFound) → (o ≡ accepted l → l.rows ≤ n + 1 + more) → (if t then lines n (17 * n + 1) true otherwise if u then o otherwise refused 20 n) ≡ accepted l
         → l.rows ≤ n + suc more
     by true u o next f = omega (arith, found_here f)
     by false true o next f = omega (arith, next f)

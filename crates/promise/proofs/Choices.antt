@@ -7,7 +7,7 @@ use native.Mathlib.Omega.{arith}
 use lib.ListN.{length, get_or, take, drop, length-append, length-drop, take-append-drop}
 use lib.Seq.{length-take-le}
 use lib.IntN.{ℤ, pos}
-use Rattle.whole.specs.Tests.{if◌then◌else◌, eq_z}
+use Rattle.whole.specs.Tests.{if◌then◌otherwise◌, eq_z}
 use Rattle.whole.specs.Bits.{bit, to_int}
 use Rattle.whole.proofs.Tests.{eq_z_iff, bit_true}
 use Rattle.whole.proofs.Bits.{to_int_below, fits_below, bits_of_length, bits_of_to_int, val, val_lt, bits_of_val}
@@ -54,8 +54,8 @@ all_in (f ∷ rows) vs n e = by (is_unknown (uses f.kind)) refl vs n e (λ ws. a
     u : Uses
     u = uses f.kind
 
-    by : (b : Bool) → is_unknown u ≡ b → (vs : List ℤ) → length vs ≡ length (if b then f ∷ unknowns rows else unknowns rows)
-        → every (each_in_bits (if b then f ∷ unknowns rows else unknowns rows) vs) ≡ true → ((ws : List ℤ) → Enough rows ws → every (each_in_bits (unknowns rows) ws) ≡ true → AllIn rows ws)
+    by : (b : Bool) → is_unknown u ≡ b → (vs : List ℤ) → length vs ≡ length (if b then f ∷ unknowns rows otherwise unknowns rows)
+        → every (each_in_bits (if b then f ∷ unknowns rows otherwise unknowns rows) vs) ≡ true → ((ws : List ℤ) → Enough rows ws → every (each_in_bits (unknowns rows) ws) ≡ true → AllIn rows ws)
         → (in_bits u f.p (first vs) ≡ true) × AllIn rows (drop (bit b) vs)
     by true k [] n e rest = absurd (omega arith)
     by true k (v ∷ vs) n e rest = let (here, others) = (and-eq-true_iff (in_bits u f.p v) (every (each_in_bits (unknowns rows) vs))).0 e in (here, rest vs (omega arith) others)
@@ -68,8 +68,8 @@ each_in : (rows : List Fields) (vs : List ℤ) → Enough rows vs → AllIn rows
 each_in [] vs n a = refl
 each_in (f ∷ rows) vs n a = by (is_unknown (uses f.kind)) vs n a.0 a.1 (λ ws. each_in rows ws)
   where
-    by : (b : Bool) (vs : List ℤ) → length vs ≡ length (if b then f ∷ unknowns rows else unknowns rows) → in_bits (uses f.kind) f.p (first vs) ≡ true → AllIn rows (drop (bit b) vs)
-        → ((ws : List ℤ) → Enough rows ws → AllIn rows ws → every (each_in_bits (unknowns rows) ws) ≡ true) → every (each_in_bits (if b then f ∷ unknowns rows else unknowns rows) vs) ≡ true
+    by : (b : Bool) (vs : List ℤ) → length vs ≡ length (if b then f ∷ unknowns rows otherwise unknowns rows) → in_bits (uses f.kind) f.p (first vs) ≡ true → AllIn rows (drop (bit b) vs)
+        → ((ws : List ℤ) → Enough rows ws → AllIn rows ws → every (each_in_bits (unknowns rows) ws) ≡ true) → every (each_in_bits (if b then f ∷ unknowns rows otherwise unknowns rows) vs) ≡ true
     by true [] n e a rest = refl
     by true (v ∷ vs) n e a rest = (and-eq-true_iff (in_bits (uses f.kind) f.p v) (every (each_in_bits (unknowns rows) vs))).1 (e, rest vs (omega arith) a)
     by false vs n e a rest = rest vs n a
@@ -107,7 +107,7 @@ abbrev pub read_all : List Fields → List Bool → List ℤ
 read_all [] l = []
 read_all (f ∷ rows) l =
     let rest = read_all rows (drop (bits_asked (uses f.kind) f.p) l) in
-    if is_unknown (uses f.kind) then read_bits (uses f.kind) f.p l ∷ rest else rest
+    if is_unknown (uses f.kind) then read_bits (uses f.kind) f.p l ∷ rest otherwise rest
 
 is_bit : (b : Bool) → (eq_z (pos (bit b)) (pos 0) || eq_z (pos (bit b)) (pos 1)) ≡ true
 is_bit true = refl
@@ -159,7 +159,7 @@ read_all_lem (f ∷ rows) l o h = by (is_unknown u) refl (read_all_lem rows (dro
     ws : List ℤ
     ws = read_all rows (drop (bits_asked u f.p) l)
 
-    by : (b : Bool) → is_unknown u ≡ b → FromBits rows ws (drop (bits_asked u f.p) l) → FromBits (f ∷ rows) (if b then read_bits u f.p l ∷ ws else ws) l
+    by : (b : Bool) → is_unknown u ≡ b → FromBits rows ws (drop (bits_asked u f.p) l) → FromBits (f ∷ rows) (if b then read_bits u f.p l ∷ ws otherwise ws) l
     by true e c =
         let (here, bits) = read_row_lem u f.p f.x f.z l o.0 (omega arith) e in
         record {
@@ -225,9 +225,9 @@ chosen_found (f ∷ rows) earlier vs n a = by (is_unknown (uses f.kind)) refl vs
     Rest : Type 0
     Rest = (e : List Value) (ws : List ℤ) → Enough rows ws → AllIn rows ws → of_unknowns rows (new_values e rows ws) ≡ ws
 
-    by : (b : Bool) → is_unknown (uses f.kind) ≡ b → (vs : List ℤ) → length vs ≡ length (if b then f ∷ unknowns rows else unknowns rows) → in_bits (uses f.kind) f.p (first vs) ≡ true
+    by : (b : Bool) → is_unknown (uses f.kind) ≡ b → (vs : List ℤ) → length vs ≡ length (if b then f ∷ unknowns rows otherwise unknowns rows) → in_bits (uses f.kind) f.p (first vs) ≡ true
         → AllIn rows (drop (bit b) vs) → Rest
-        → (let v = row_val earlier f (first vs) in let rest = of_unknowns rows (new_values (earlier ++ v ∷ []) rows (drop (bit b) vs)) in if b then numerator v ∷ rest else rest) ≡ vs
+        → (let v = row_val earlier f (first vs) in let rest = of_unknowns rows (new_values (earlier ++ v ∷ []) rows (drop (bit b) vs)) in if b then numerator v ∷ rest otherwise rest) ≡ vs
     by true u [] n b a rest = absurd (omega arith)
     by true u (v ∷ vs) n b a rest = ap₂ ◌∷◌ (own_numerator f.kind f.p f.x f.y f.z _ _ _ v u b) (rest (earlier ++ row_val earlier f v ∷ []) vs (omega arith) a)
     by false u vs n b a rest = rest (earlier ++ row_val earlier f (first vs) ∷ []) vs n a

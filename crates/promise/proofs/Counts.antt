@@ -7,7 +7,7 @@ use native.Mathlib.Omega.{arith}
 use lib.Dec.{eqb}
 use lib.ListN.{length, length-append}
 use lib.IntN.{pos, nat_abs}
-use Rattle.whole.specs.Tests.{if◌then◌else◌}
+use Rattle.whole.specs.Tests.{if◌then◌otherwise◌}
 use Rattle.whole.specs.Bits.{bit, fewest}
 use Rattle.circuit.specs.declared.Counts.{Counts}
 use Rattle.circuit.specs.Literals.{Lit, plus, minus, slot, slots_of}
@@ -38,7 +38,7 @@ expansion_asks : (w f : ℕ) → (an_expansion w f).unknowns ≡ 0
 unfolding an_expansion a_product
 expansion_asks w f = go (eqb f 1)
   where
-    go : (b : Bool) → (if b then nothing else a_product (w + fewest (pos f))).unknowns ≡ 0
+    go : (b : Bool) → (if b then nothing otherwise a_product (w + fewest (pos f))).unknowns ≡ 0
     go true = refl
     go false = refl
 
@@ -64,7 +64,7 @@ plan_asks Choice p x y z a b c = omega (arith, bringing_asks b c)
 plan_asks Greater p x y z a b c = omega (arith, bringing_asks a b)
 plan_asks Equal p x y z a b c = omega (arith, bringing_asks a b)
 
-one_more : (b : Bool) (f : Fields) (fs : List Fields) → length (if b then f ∷ fs else fs) ≡ bit b + length fs
+one_more : (b : Bool) (f : Fields) (fs : List Fields) → length (if b then f ∷ fs otherwise fs) ≡ bit b + length fs
 one_more true f fs = omega arith
 one_more false f fs = omega arith
 

@@ -8,7 +8,7 @@ use native.Mathlib.Omega.{arith}
 use lib.Pow.{pow_mono}
 use lib.IntN.{ℤ, pos, negsuc, nat_abs}
 use lib.Signed.{mag}
-use Rattle.whole.specs.Tests.{if◌then◌else◌}
+use Rattle.whole.specs.Tests.{if◌then◌otherwise◌}
 use Rattle.whole.proofs.Bits.{fits_iff}
 use Rattle.circuit.specs.Counting.{the_first}
 use Rattle.sheet.specs.declared.Fields.{Fields}
@@ -76,8 +76,8 @@ same_lines (r ∷ rs) n i [] (v ∷ vs) (w ∷ ws) h k e = refl
 same_lines (r ∷ rs) n i (f ∷ rows) (v ∷ vs) (w ∷ ws) h k e = by (is_unknown (uses f.kind)) (same_lines rs n.1 (i + 1) rows vs ws h.1 k.1) e
   where
     by : (b : Bool) → (setting_lines (i + 1) rows vs ≡ setting_lines (i + 1) rows ws → of_unknowns rows vs ≡ of_unknowns rows ws)
-        → (if b then value_line i v else []) ++ setting_lines (i + 1) rows vs ≡ (if b then value_line i w else []) ++ setting_lines (i + 1) rows ws
-        → (if b then numerator v ∷ of_unknowns rows vs else of_unknowns rows vs) ≡ (if b then numerator w ∷ of_unknowns rows ws else of_unknowns rows ws)
+        → (if b then value_line i v otherwise []) ++ setting_lines (i + 1) rows vs ≡ (if b then value_line i w otherwise []) ++ setting_lines (i + 1) rows ws
+        → (if b then numerator v ∷ of_unknowns rows vs otherwise of_unknowns rows vs) ≡ (if b then numerator w ∷ of_unknowns rows ws otherwise of_unknowns rows ws)
     by true rest q =
         let (same, behind) = same_line i v w (setting_lines (i + 1) rows vs) (setting_lines (i + 1) rows ws) q in
         ap₂ ◌∷◌ (same_number v w (few_digits r v h.0 n.0) (few_digits r w k.0 n.0) same) (rest behind)

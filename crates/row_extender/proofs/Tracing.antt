@@ -4,7 +4,7 @@ use mathlib.Core.Bool.{true, false, not, ◌&&◌}
 use mathlib.Core.List.{[], ◌∷◌, ◌++◌}
 use Prim.Native.Nat.{◌+◌}
 use lib.IntN.{ℤ, pos}
-use Rattle.whole.specs.Tests.{if◌then◌else◌, eq_z}
+use Rattle.whole.specs.Tests.{if◌then◌otherwise◌, eq_z}
 use Rattle.whole.specs.Bits.{bits_of}
 use Rattle.circuit.specs.Gates.{xor_of}
 use Rattle.sheet.specs.declared.Kind.TheVariants.{BooleanConstant, BooleanUnknown, NaturalUnknown, IntegerUnknown, NumberConstant}
@@ -68,7 +68,7 @@ module _ (f : Fields) (a b c : Operand) (v : ℤ) where
   unfolding trace_over
   product_trace k (is_a, is_b) = rw (k, is_a.sort, is_b.sort)
 
-  pub choice_trace : f.kind ≡ Choice → IsBoolean a × Meeting b c → trace_over f a b c v ≡ both_brought b c ++ bits_of (common_width b c) (if is_true a then left b c else right b c)
+  pub choice_trace : f.kind ≡ Choice → IsBoolean a × Meeting b c → trace_over f a b c v ≡ both_brought b c ++ bits_of (common_width b c) (if is_true a then left b c otherwise right b c)
   unfolding trace_over
   choice_trace k (is_a, m) = rw (k, is_a, m.first.sort, m.second.sort)
 

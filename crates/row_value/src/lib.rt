@@ -4,7 +4,7 @@
 ghost use Rattle.std.specs.Prelude.{◌≡◌, not, ◌&&◌, ◌||◌, eqb, pos, ◌+ℤ◌, ◌-ℤ◌, ◌*ℤ◌};
 ghost use Rattle.std.specs.Bool.{beq};
 ghost use Rattle.std.specs.Int.Signed.{lt_z};
-ghost use Rattle.whole.specs.Tests.{if◌then◌else◌, eq_z};
+ghost use Rattle.whole.specs.Tests.{if◌then◌otherwise◌, eq_z};
 ghost use Rattle.whole.specs.Bits.{Fits, bit};
 ghost use Rattle.sheet.specs.Rows.{constant_in};
 ghost use Rattle.sheet.specs.Values.{numerator};
@@ -132,7 +132,7 @@ fn product(a: Operand, b: Operand) -> i64
 // a if c, else b.
 fn choice(c: Operand, a: Operand, b: Operand) -> i64
     requires { Meeting a b }
-    ensures { result ≡ (if is_true c then brought (common a b) a else brought (common a b) b) }
+    ensures { result ≡ (if is_true c then brought (common a b) a otherwise brought (common a b) b) }
 {
     let n = bring(a, b);
     arithmetic::choice(is_true(c), n.left, n.right)

@@ -9,7 +9,7 @@ use native.Mathlib.Omega.{arith}
 use lib.IntN.{ℤ, pos}
 use lib.ListN.{length, get_or, take, drop, length-append}
 use lib.Seq.{get_or-drop, drop-drop}
-use Rattle.whole.specs.Tests.{if◌then◌else◌}
+use Rattle.whole.specs.Tests.{if◌then◌otherwise◌}
 use Rattle.whole.specs.Bits.{bit}
 use Rattle.sheet.specs.declared.Reading.{Reading}
 use Rattle.sheet.specs.declared.Reading.TheVariants.{Read, Refused}
@@ -35,7 +35,7 @@ piece_short : (i : ℕ) (r : Reading) (v : ℤ) → length (setting_piece i r v)
 piece_short i (Refused n) v = omega arith
 piece_short i (Read f) v = by (is_unknown (uses f.kind))
   where
-    by : (b : Bool) → length (if b then setting_line i v (denominator (row_val [] f v)) else []) ≤ 64
+    by : (b : Bool) → length (if b then setting_line i v (denominator (row_val [] f v)) otherwise []) ≤ 64
     by true = length_setting i v (denominator (row_val [] f v))
     by false = omega arith
 

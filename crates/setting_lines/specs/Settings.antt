@@ -1,6 +1,6 @@
 -- The pieces of the settings in print: a row a piece, which is empty if the row is no unknown. Assumes nothing.
 use Rattle.std.specs.Prelude.{◌≡◌, List, [], ◌∷◌, ℕ, zero, suc, ◌+◌, ◌/◌, ◌≤◌, ℤ, pos, length, get_or, take, drop}
-use Rattle.whole.specs.Tests.{if◌then◌else◌}
+use Rattle.whole.specs.Tests.{if◌then◌otherwise◌}
 use Rattle.whole.specs.Bits.{bit}
 use Rattle.circuit.specs.Literals.{Assignment}
 use Rattle.sheet.specs.declared.Reading.{Reading}
@@ -20,7 +20,7 @@ setting_line i numerator denominator = value_line i (fraction numerator denomina
 -- v is the numerator; the denominator is that of the unknown's value, whatever is chosen for it
 abbrev pub setting_piece : (i : ℕ) → Reading → (v : ℤ) → List ℕ
 setting_piece i (Refused n) v = []
-setting_piece i (Read f) v = if is_unknown (uses f.kind) then setting_line i v (denominator (row_val [] f v)) else []
+setting_piece i (Read f) v = if is_unknown (uses f.kind) then setting_line i v (denominator (row_val [] f v)) otherwise []
 
 -- n rows from row i on, the numerators of their unknowns in row order
 unfoldable pub setting_pieces : (n i : ℕ) (bytes : List ℕ) (vs : List ℤ) → List (List ℕ)

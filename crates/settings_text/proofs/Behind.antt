@@ -6,7 +6,7 @@ use Prim.Native.Nat.{ℕ, zero, suc, ◌+◌, ◌*◌, ◌≤◌}
 use native.Mathlib.Omega.{arith}
 use lib.Dec.{eqb}
 use lib.ListN.{length, drop, length-drop}
-use Rattle.whole.specs.Tests.{if◌then◌else◌}
+use Rattle.whole.specs.Tests.{if◌then◌otherwise◌}
 use Rattle.sheet.specs.declared.LinesFound.{LinesFound}
 use Rattle.sheet.specs.Acceptance.{Outcome, refused, accepted}
 use Rattle.sheet.specs.Texts.{begins_line, table_in, lines, lines_from, read_lines, refused_line}
@@ -27,7 +27,7 @@ unfolding lines_from
 rest_near zero blank n [] l e = (omega (arith, rest_here e), omega (arith, rest_here e))
 rest_near zero blank n (b ∷ text) l e = by (blank && eqb b 10) e
   where
-    by : (t : Bool) → (if t then lines n (17 * n + 1) true else refused 2 0) ≡ accepted l → Near 0 n (b ∷ text) l.rest
+    by : (t : Bool) → (if t then lines n (17 * n + 1) true otherwise refused 2 0) ≡ accepted l → Near 0 n (b ∷ text) l.rest
     by true f = (omega (arith, rest_here f), omega (arith, rest_here f))
     by false f = refused_not f
 rest_near (suc more) blank n [] l e = (omega (arith, rest_here e), omega (arith, rest_here e))
@@ -35,7 +35,7 @@ rest_near (suc more) blank n (b ∷ text) l e =
     by (blank && eqb b 10) (begins_line 16 (b ∷ text)) refl (lines_from more blank (n + 1) (drop 17 (b ∷ text))) (rest_near more blank (n + 1) (drop 17 (b ∷ text)) l) e
   where
     by : (t u : Bool) → begins_line 16 (b ∷ text) ≡ u → (o : Outcome LinesFound) → (o ≡ accepted l → Near more (n + 1) (drop 17 (b ∷ text)) l.rest)
-        → (if t then lines n (17 * n + 1) true else if u then o else refused 20 n) ≡ accepted l → Near (suc more) n (b ∷ text) l.rest
+        → (if t then lines n (17 * n + 1) true otherwise if u then o otherwise refused 20 n) ≡ accepted l → Near (suc more) n (b ∷ text) l.rest
     by true u q o next f = (omega (arith, rest_here f), omega (arith, rest_here f))
     by false true q o next f =
         let (within, near) = next f in

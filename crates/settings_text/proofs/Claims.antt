@@ -9,7 +9,7 @@ use borrow.Author.Tests.{le-ltb}
 use lib.Dec.{eqb, ltb}
 use lib.ListN.{length, take, drop}
 use lib.Seq.{take_at}
-use Rattle.whole.specs.Tests.{if◌then◌else◌}
+use Rattle.whole.specs.Tests.{if◌then◌otherwise◌}
 use Rattle.sheet.specs.declared.ClaimRead.{ClaimRead}
 use Rattle.sheet.specs.declared.ClaimRead.TheVariants.{Model, NoneClaimed, Refused}
 use Rattle.sheet.specs.Values.{every}
@@ -36,7 +36,7 @@ unfolding sign_at
 sign_bit [] = refl
 sign_bit (b ∷ text) = by (eqb b 45)
   where
-    by : (t : Bool) → ltb (if t then 0 else 1) 2 ≡ true
+    by : (t : Bool) → ltb (if t then 0 otherwise 1) 2 ≡ true
     by true = refl
     by false = refl
 

@@ -9,7 +9,7 @@ use lib.Dec.{ltb}
 use lib.IntN.{ℤ}
 use lib.ListN.{length, get_or, take, drop, length-append}
 use lib.Seq.{take_at}
-use Rattle.whole.specs.Tests.{if◌then◌else◌}
+use Rattle.whole.specs.Tests.{if◌then◌otherwise◌}
 use Rattle.sheet.specs.declared.Fields.{Fields}
 use Rattle.sheet.specs.Rows.{uses, is_unknown, rows_of}
 use Rattle.sheet.specs.Values.{row_values, unknowns, Chosen}
@@ -42,7 +42,7 @@ few_unknowns : (rows : List Fields) → length (unknowns rows) ≤ length rows
 few_unknowns [] = omega arith
 few_unknowns (f ∷ rows) = by (is_unknown (uses f.kind)) (few_unknowns rows)
   where
-    by : (b : Bool) → length (unknowns rows) ≤ length rows → length (if b then f ∷ unknowns rows else unknowns rows) ≤ suc (length rows)
+    by : (b : Bool) → length (unknowns rows) ≤ length rows → length (if b then f ∷ unknowns rows otherwise unknowns rows) ≤ suc (length rows)
     by true h = omega arith
     by false h = omega arith
 

@@ -8,7 +8,7 @@ use native.Mathlib.Omega.{arith}
 use lib.Dec.{eqb, ltb}
 use lib.ListN.{length, take, drop, length-append}
 use borrow.Author.Tests.{ltb-false, eqb-true, not-false}
-use Rattle.whole.specs.Tests.{if◌then◌else◌}
+use Rattle.whole.specs.Tests.{if◌then◌otherwise◌}
 use Rattle.circuit.specs.declared.Counts.{Counts}
 use Rattle.circuit.specs.Counting.{◌⊕◌, the_first, the_last}
 use Rattle.sheet.specs.declared.Kind.{Kind}
@@ -163,7 +163,7 @@ pub record Walked (table : List ℕ) (earlier : List Record) (so : Counts) (rows
   pub ends : eqb (sort_at sheet.records (length sheet.records - 1)) 1 ≡ false
   pub read : sheet.rows ≡ rows_of (length sheet.records) table
 
-not_refused : (b : Bool) (n p : ℕ) (o : Outcome Sheet) {sheet : Sheet} → (if b then refused n p else o) ≡ accepted sheet → (b ≡ false) × (o ≡ accepted sheet)
+not_refused : (b : Bool) (n p : ℕ) (o : Outcome Sheet) {sheet : Sheet} → (if b then refused n p otherwise o) ≡ accepted sheet → (b ≡ false) × (o ≡ accepted sheet)
 not_refused true n p o e = refused_not e
 not_refused false n p o e = (refl, e)
 

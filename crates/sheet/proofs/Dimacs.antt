@@ -10,7 +10,7 @@ use lib.Dec.{eqb}
 use lib.ListN.{length}
 use lib.Seq.{drop-append_seam}
 use lib.IntN.{ℤ, pos, negsuc, nat_abs}
-use Rattle.whole.specs.Tests.{if◌then◌else◌}
+use Rattle.whole.specs.Tests.{if◌then◌otherwise◌}
 use Rattle.circuit.specs.Literals.{plus, minus, Clause, slot, slots_of}
 use Rattle.circuit.proofs.Bounds.{bound}
 use Rattle.sheet.specs.Texts.{ascii, decimal, signed, slot_text, slot_texts, starts}
@@ -61,7 +61,7 @@ slot_words (z ∷ zs) = by (eqb (nat_abs z) 0) (slot_words zs)
     one : (s : ℕ) → is_space s ≡ true → words (slot_texts zs) ≡ map signed zs → words (signed z ++ s ∷ [] ++ slot_texts zs) ≡ signed z ∷ map signed zs
     one s e q = ap words (append_assoc (signed z) (s ∷ []) (slot_texts zs)) ∙ word_first s e (signed z) (slot_texts zs) (signed_some z) (signed_above z) ∙ ap (λ (ws : List (List ℕ)). signed z ∷ ws) q
 
-    by : (b : Bool) → words (slot_texts zs) ≡ map signed zs → words (signed z ++ (if b then ascii "\n" else ascii " ") ++ slot_texts zs) ≡ signed z ∷ map signed zs
+    by : (b : Bool) → words (slot_texts zs) ≡ map signed zs → words (signed z ++ (if b then ascii "\n" otherwise ascii " ") ++ slot_texts zs) ≡ signed z ∷ map signed zs
     by true q = one 10 refl q
     by false q = one 32 refl q
 

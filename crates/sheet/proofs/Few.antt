@@ -8,7 +8,7 @@ use native.Mathlib.Omega.{arith}
 use lib.Dec.{eqb}
 use lib.IntN.{pos}
 use lib.ListN.{length}
-use Rattle.whole.specs.Tests.{if◌then◌else◌}
+use Rattle.whole.specs.Tests.{if◌then◌otherwise◌}
 use Rattle.whole.specs.Bits.{fewest}
 use Rattle.circuit.specs.declared.Counts.{Counts}
 use Rattle.circuit.specs.Counting.{◌⊕◌, nothing, a_product, expanded_width, an_expansion, the_first}
@@ -31,7 +31,7 @@ expansion_few : (w f : ℕ) → expanded_width w f ≤ 48 → Few 20000 (an_expa
 unfolding expanded_width an_expansion
 expansion_few w f = by (eqb f 1)
   where
-    by : (b : Bool) → (if b then w else w + fewest (pos f)) ≤ 48 → Few 20000 (if b then nothing else a_product (w + fewest (pos f)))
+    by : (b : Bool) → (if b then w otherwise w + fewest (pos f)) ≤ 48 → Few 20000 (if b then nothing otherwise a_product (w + fewest (pos f)))
     by true h = record { variables = omega arith; clauses = omega arith }
     by false h = product_few (w + fewest (pos f)) h
 

@@ -9,7 +9,7 @@ use borrow.Author.Tests.{eqb-true, eq-eqb, ne_eqb, lt-ltb}
 use lib.Dec.{eqb, ltb}
 use lib.ListN.{length, drop, length-append}
 use lib.Seq.{drop-append_seam}
-use Rattle.whole.specs.Tests.{if◌then◌else◌}
+use Rattle.whole.specs.Tests.{if◌then◌otherwise◌}
 use Rattle.sheet.specs.Acceptance.{Outcome, refused, accepted}
 use Rattle.sheet.specs.Calls.{◌giving◌}
 use Rattle.sheet.specs.Texts.{ascii, digit, digits_in, decimal, Claim, none_claimed, model, satisfiable, unsatisfiable, variable_text, variable_texts, model_line, sign_at, signs_in, starts, model_claim, claim_in, is_model}
@@ -41,8 +41,8 @@ module _ (n : ℕ) (text : List ℕ) where
     where
       claim : (u v w x y : Bool) → Outcome Claim
       claim u v w x y =
-          if u then if v then accepted none_claimed else refused 21 1 else
-          if w then if x then if y then accepted (model told) else refused 21 2 else refused 21 1 else
+          if u then if v then accepted none_claimed otherwise refused 21 1 otherwise
+          if w then if x then if y then accepted (model told) otherwise refused 21 2 otherwise refused 21 1 otherwise
           refused 21 0
 
       by : (u v w x y : Bool) → accepted true ≡ (claim u v w x y giving is_model) → (claim u v w x y ≡ accepted (model told)) × (w ≡ true) × (x ≡ true) × (y ≡ true)
@@ -87,7 +87,7 @@ digit_sign n text = rw (lt-ltb (n % 10) 10 (omega arith), ne_eqb (48 + n % 10) 4
 
 -- a number does not begin with a minus
 lead : (b : Bool) (ds : List ℕ) (n : ℕ) (text : List ℕ) → ((rest : List ℕ) → sign_at (ds ++ rest) ≡ 1)
-    → sign_at (((if b then [] else ds) ++ digit (n % 10) ∷ []) ++ text) ≡ 1
+    → sign_at (((if b then [] otherwise ds) ++ digit (n % 10) ∷ []) ++ text) ≡ 1
 lead true ds n text h = digit_sign n text
 lead false ds n text h = rw (append_assoc ds (digit (n % 10) ∷ []) text) (h (digit (n % 10) ∷ text))
 
@@ -95,7 +95,7 @@ number_sign : (k n : ℕ) (text : List ℕ) → sign_at (digits_in (suc k) n ++ 
 unfolding digits_in
 number_sign zero n text = last (ltb n 10)
   where
-    last : (b : Bool) → sign_at (((if b then [] else []) ++ digit (n % 10) ∷ []) ++ text) ≡ 1
+    last : (b : Bool) → sign_at (((if b then [] otherwise []) ++ digit (n % 10) ∷ []) ++ text) ≡ 1
     last true = digit_sign n text
     last false = digit_sign n text
 number_sign (suc k) n text = lead (ltb n 10) (digits_in (suc k) (n / 10)) n text (λ rest. number_sign k (n / 10) rest)
@@ -144,7 +144,7 @@ pub variable_short : (b k : ℕ) → k < 10000 → length (variable_text b k) �
 unfolding variable_text
 variable_short b k h = by (eqb b 0)
   where
-    by : (t : Bool) → length ((if t then ascii "-" else []) ++ decimal k ++ ascii " ") ≤ 6
+    by : (t : Bool) → length ((if t then ascii "-" otherwise []) ++ decimal k ++ ascii " ") ≤ 6
     by true = omega (arith, length-append (decimal k) (ascii " "), four_digits k h)
     by false = omega (arith, length-append (decimal k) (ascii " "), four_digits k h)
 

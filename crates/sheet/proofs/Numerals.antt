@@ -9,7 +9,7 @@ use borrow.Author.Tests.{lt-ltb, le-ltb, ne_eqb, ltb-true}
 use lib.Dec.{ltb}
 use lib.ListN.{length, length-append}
 use lib.IntN.{ℤ, pos, negsuc, neg_ℤ, nat_abs}
-use Rattle.whole.specs.Tests.{if◌then◌else◌}
+use Rattle.whole.specs.Tests.{if◌then◌otherwise◌}
 use Rattle.sheet.specs.Texts.{digit, nibble, digits_in, decimal, signed}
 use Rattle.sheet.specs.Dimacs.{digits_behind, natural, integer}
 use Rattle.sheet.proofs.Lines.{digit_back}
@@ -31,7 +31,7 @@ digits_above m (suc k) n h = by (ltb n 10) (digits_above m k (n / 10) h)
     last : Above m (digit (n % 10) ∷ [])
     last = rw (lt-ltb (n % 10) 10 (omega arith)) (omega arith, tt)
 
-    by : (b : Bool) → Above m (digits_in k (n / 10)) → Above m ((if b then [] else digits_in k (n / 10)) ++ digit (n % 10) ∷ [])
+    by : (b : Bool) → Above m (digits_in k (n / 10)) → Above m ((if b then [] otherwise digits_in k (n / 10)) ++ digit (n % 10) ∷ [])
     by true q = last
     by false q = above_append m (digits_in k (n / 10)) (digit (n % 10) ∷ []) q last
 
@@ -48,7 +48,7 @@ signed_above (negsuc n) = (omega arith, decimal_above 32 (suc n) (omega arith))
 pub decimal_some : (n : ℕ) → 0 < length (decimal n)
 unfolding decimal digits_in
 decimal_some n =
-    let front = if ltb n 10 then [] else digits_in 19 (n / 10) in
+    let front = if ltb n 10 then [] otherwise digits_in 19 (n / 10) in
     rw (length-append front (digit (n % 10) ∷ [])) (omega arith)
 
 pub signed_some : (z : ℤ) → 0 < length (signed z)
@@ -64,7 +64,7 @@ behind-append n [] ys = refl
 behind-append n (x ∷ xs) ys = by (ltb (nibble x) 10) (behind-append (n * 10 + nibble x) xs ys)
   where
     by : (b : Bool) → digits_behind (n * 10 + nibble x) (xs ++ ys) ≡ bind (digits_behind (n * 10 + nibble x) xs) (λ m. digits_behind m ys)
-        → (if b then digits_behind (n * 10 + nibble x) (xs ++ ys) else none) ≡ bind (if b then digits_behind (n * 10 + nibble x) xs else none) (λ m. digits_behind m ys)
+        → (if b then digits_behind (n * 10 + nibble x) (xs ++ ys) otherwise none) ≡ bind (if b then digits_behind (n * 10 + nibble x) xs otherwise none) (λ m. digits_behind m ys)
     by true q = q
     by false q = refl
 
@@ -78,7 +78,7 @@ digits_back zero n h = ap some (omega arith)
 digits_back (suc k) n h = by (ltb n 10) refl (digits_back k (n / 10) (omega arith))
   where
     by : (b : Bool) → ltb n 10 ≡ b → digits_behind 0 (digits_in k (n / 10)) ≡ some (n / 10)
-        → digits_behind 0 ((if b then [] else digits_in k (n / 10)) ++ digit (n % 10) ∷ []) ≡ some n
+        → digits_behind 0 ((if b then [] otherwise digits_in k (n / 10)) ++ digit (n % 10) ∷ []) ≡ some n
     by true e q = one_behind 0 (n % 10) (omega arith) ∙ ap some (omega (arith, ltb-true n 10 e))
     by false e q = rw (behind-append 0 (digits_in k (n / 10)) (digit (n % 10) ∷ []), q) (one_behind (n / 10) (n % 10) (omega arith) ∙ ap some (omega arith))
 

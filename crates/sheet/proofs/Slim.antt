@@ -8,7 +8,7 @@ use native.Mathlib.Omega.{arith}
 use lib.Dec.{eqb}
 use lib.IntN.{pos}
 use lib.ListN.{length}
-use Rattle.whole.specs.Tests.{if◌then◌else◌}
+use Rattle.whole.specs.Tests.{if◌then◌otherwise◌}
 use Rattle.whole.specs.Bits.{fewest}
 use Rattle.circuit.specs.declared.Counts.{Counts}
 use Rattle.circuit.specs.Counting.{◌⊕◌, nothing, a_product, an_expansion, the_first}
@@ -37,7 +37,7 @@ expansion_slim : (w f : ℕ) → Slim (an_expansion w f)
 unfolding an_expansion
 expansion_slim w f = by (eqb f 1)
   where
-    by : (b : Bool) → Slim (if b then nothing else a_product (w + fewest (pos f)))
+    by : (b : Bool) → Slim (if b then nothing otherwise a_product (w + fewest (pos f)))
     by true = record { slim = omega arith }
     by false = product_slim (w + fewest (pos f))
 

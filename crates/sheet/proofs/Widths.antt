@@ -8,7 +8,7 @@ use native.Mathlib.Numerals.{add-one}
 use native.Mathlib.Nat.{mul-pos}
 use lib.Dec.{T, eqb, eqb→eq}
 use lib.IntN.{ℤ, pos, ◌*ℤ◌, one, *ℤ-one}
-use Rattle.whole.specs.Tests.{if◌then◌else◌}
+use Rattle.whole.specs.Tests.{if◌then◌otherwise◌}
 use Rattle.whole.specs.Bits.{Fits, fewest}
 use Rattle.whole.proofs.Divisors.{lcm-pos}
 use Rattle.whole.proofs.Ranges.{natural_fits, sum_fits, difference_fits, choice_fits, product_fits, fewest_fits}
@@ -69,7 +69,7 @@ pub expansion_fits : {w : ℕ} {x : ℤ} (factor : ℕ) → 0 < w → Fits w x �
 unfolding expanded_width one
 expansion_fits {w} {x} factor h p = by (eqb factor 1) (λ t. eqb→eq factor 1 t)
   where
-    by : (b : Bool) → (T b → factor ≡ 1) → Fits (if b then w else w + fewest (pos factor)) (x *ℤ pos factor)
+    by : (b : Bool) → (T b → factor ≡ 1) → Fits (if b then w otherwise w + fewest (pos factor)) (x *ℤ pos factor)
     by true e = rw (e tt, *ℤ-one x) p
     by false e = product_fits h (omega arith) p (fewest_fits (pos factor))
 

@@ -1,7 +1,7 @@
 -- "Widths" and refusals 1 to 10: a row passes with its record or stops with its refusal; a table is accepted or refused at a
 -- place. The order of the refusals is the order of the lines. Assumes nothing.
 use Rattle.std.specs.Prelude.{Bool, true, false, not, ◌||◌, List, [], ◌∷◌, ◌++◌, ℕ, zero, suc, ◌+◌, ◌*◌, ◌-◌, ◌/◌, ◌%◌, max, eqb, ltb, leb, length, get_or, take, drop}
-use Rattle.whole.specs.Tests.{if◌then◌else◌}
+use Rattle.whole.specs.Tests.{if◌then◌otherwise◌}
 use Rattle.whole.specs.Bits.{fewest}
 use Rattle.whole.specs.Divisors.{lcm}
 use Rattle.circuit.specs.declared.Counts.{Counts}
@@ -144,7 +144,7 @@ pub record Sheet : Type 0 where
 -- the last row must be Boolean
 abbrev pub ending : List ℕ → List Record → Counts → Outcome Sheet
 ending table records so =
-    if eqb (record_at records (length records - 1)).sort 1 then refused 10 (length records - 1) else
+    if eqb (record_at records (length records - 1)).sort 1 then refused 10 (length records - 1) otherwise
     accepted (record { rows = rows_of (length records) table; records = records; counts = so ⊕ the_last })
 
 abbrev pub onward : Verdict → List Record → Counts → (List Record → Counts → Outcome Sheet) → Outcome Sheet
@@ -158,7 +158,7 @@ walk table earlier so (suc left) bytes = onward (judge earlier so.slots (read_ro
 
 unfoldable pub accept : List ℕ → Outcome Sheet
 accept table =
-    if eqb (length table) 0 then refused 1 0 else
-    if not (eqb (length table % 8) 0) then refused 1 0 else
-    if ltb 256 (length table / 8) then refused 2 0 else
+    if eqb (length table) 0 then refused 1 0 otherwise
+    if not (eqb (length table % 8) 0) then refused 1 0 otherwise
+    if ltb 256 (length table / 8) then refused 2 0 otherwise
     walk table [] the_first (length table / 8) table

@@ -1,6 +1,6 @@
 -- "The table": what a row's eight bytes say, or refusal 3 or 4; the rows of a table. Assumes nothing.
 use Rattle.std.specs.Prelude.{Bool, true, false, ◌&&◌, List, [], ◌∷◌, ℕ, zero, suc, ◌+◌, ◌*◌, ◌-◌, eqb, ltb, length, get_or, take, drop, ℤ, pos, negsuc}
-use Rattle.whole.specs.Tests.{if◌then◌else◌}
+use Rattle.whole.specs.Tests.{if◌then◌otherwise◌}
 use Rattle.sheet.specs.declared.Kind.{Kind}
 use Rattle.sheet.specs.declared.Kind.TheVariants.{BooleanConstant, BooleanUnknown, NaturalUnknown, IntegerUnknown, NumberConstant, Not, And, Or, Implies, Iff, Sum, Difference, Product, Choice, Greater, Equal}
 use Rattle.sheet.specs.declared.Named.{Named}
@@ -11,22 +11,22 @@ use Rattle.sheet.specs.declared.Reading.TheVariants.{Read, Refused}
 
 unfoldable pub kind_of : ℕ → Named
 kind_of k =
-    if eqb k 0x00 then Is BooleanConstant else
-    if eqb k 0x01 then Is BooleanUnknown else
-    if eqb k 0x02 then Is NaturalUnknown else
-    if eqb k 0x03 then Is IntegerUnknown else
-    if eqb k 0x04 then Is NumberConstant else
-    if eqb k 0x10 then Is Not else
-    if eqb k 0x11 then Is And else
-    if eqb k 0x12 then Is Or else
-    if eqb k 0x13 then Is Implies else
-    if eqb k 0x14 then Is Iff else
-    if eqb k 0x20 then Is Sum else
-    if eqb k 0x21 then Is Difference else
-    if eqb k 0x22 then Is Product else
-    if eqb k 0x23 then Is Choice else
-    if eqb k 0x30 then Is Greater else
-    if eqb k 0x31 then Is Equal else
+    if eqb k 0x00 then Is BooleanConstant otherwise
+    if eqb k 0x01 then Is BooleanUnknown otherwise
+    if eqb k 0x02 then Is NaturalUnknown otherwise
+    if eqb k 0x03 then Is IntegerUnknown otherwise
+    if eqb k 0x04 then Is NumberConstant otherwise
+    if eqb k 0x10 then Is Not otherwise
+    if eqb k 0x11 then Is And otherwise
+    if eqb k 0x12 then Is Or otherwise
+    if eqb k 0x13 then Is Implies otherwise
+    if eqb k 0x14 then Is Iff otherwise
+    if eqb k 0x20 then Is Sum otherwise
+    if eqb k 0x21 then Is Difference otherwise
+    if eqb k 0x22 then Is Product otherwise
+    if eqb k 0x23 then Is Choice otherwise
+    if eqb k 0x30 then Is Greater otherwise
+    if eqb k 0x31 then Is Equal otherwise
     Unknown
 
 -- the table's third column: x is 0 or 1; an unknown; a constant; or x, y, z name earlier rows of these sorts, 0 Boolean, 1 number
@@ -73,7 +73,7 @@ abbrev pub fields : List ℕ → Kind → Fields
 fields row k = record { kind = k; p = get_or row 1 0; x = word_at row 2; y = word_at row 4; z = word_at row 6 }
 
 abbrev pub used : Fields → Reading
-used f = if all_zero (unused (uses f.kind) f.p f.x f.y f.z) then Read f else Refused 4
+used f = if all_zero (unused (uses f.kind) f.p f.x f.y f.z) then Read f otherwise Refused 4
 
 abbrev pub named : List ℕ → Named → Reading
 named row Unknown = Refused 3
@@ -96,7 +96,7 @@ abbrev pub constant_in : (x y : ℕ) → ℤ
 constant_in x y = signed (x * 65536 + y)
   where
     signed : ℕ → ℤ
-    signed n = if ltb n 0x8000_0000 then pos n else negsuc (0xffff_ffff - n)
+    signed n = if ltb n 0x8000_0000 then pos n otherwise negsuc (0xffff_ffff - n)
 
 -- kinds 01, 02 and 03 are the unknowns
 abbrev pub is_unknown : Uses → Bool

@@ -2,7 +2,7 @@
 use Rattle.std.specs.Prelude.{◌≡◌, Bool, true, false, List, [], ◌∷◌, ◌++◌, ℕ, ◌+◌, ◌*◌, ◌≤◌, ◌<◌, length, ℤ, pos, ◌+ℤ◌, ◌-ℤ◌, ◌*ℤ◌}
 use Rattle.std.specs.Int.{◌∣◌}
 use Rattle.std.specs.Int.Signed.{lt_z}
-use Rattle.whole.specs.Tests.{if◌then◌else◌, eq_z}
+use Rattle.whole.specs.Tests.{if◌then◌otherwise◌, eq_z}
 use Rattle.sheet.specs.declared.Kind.TheVariants.{Sum, Difference, Product, Choice, Greater, Equal}
 use Rattle.sheet.specs.Values.{Value, fraction, truth_of, numerator, denominator, over, value_by}
 use Rattle.sheet.specs.Acceptance.{accepted}
@@ -37,7 +37,7 @@ ProductIs =
 abbrev pub ChoiceIs : Type 0
 ChoiceIs =
     (n : ℤ) (d : ℕ) (m : ℤ) (e : ℕ) → 0 < d → 0 < e → (p x y z : ℕ) (c : Value) (v : ℤ)
-    → IsFraction (value_by Choice p x y z c (fraction n d) (fraction m e) v) (if truth_of c then n else m) (if truth_of c then d else e)
+    → IsFraction (value_by Choice p x y z c (fraction n d) (fraction m e) v) (if truth_of c then n otherwise m) (if truth_of c then d otherwise e)
 
 abbrev pub GreaterIs : Type 0
 GreaterIs =

@@ -1,7 +1,7 @@
 -- "Numbering and clauses": rows to clauses, the literal map and the slots; how an assignment reads, and the assignment that
 -- extends chosen values. Assumes nothing.
 use Rattle.std.specs.Prelude.{Bool, List, [], ◌∷◌, ◌++◌, map, ℕ, ◌*◌, ◌-◌, ◌/◌, eqb, length, get_or, drop, replicate, ℤ, pos}
-use Rattle.whole.specs.Tests.{if◌then◌else◌, eq_z}
+use Rattle.whole.specs.Tests.{if◌then◌otherwise◌, eq_z}
 use Rattle.whole.specs.Bits.{bit, to_int, bits_of}
 use Rattle.whole.specs.Divisors.{lcm}
 use Rattle.circuit.specs.Literals.{Lit, neg, falsity, known, Clause, slot, slots_of, Assignment, lit_true}
@@ -117,7 +117,7 @@ map_for rows = pages (cells rows)
 
 -- how an assignment reads a row: a truth, or two's complement over the row's denominator
 abbrev pub read_as : Assignment → Record → List Lit → Value
-read_as s r ls = if eqb r.sort 0 then boolean (lit_true s (get_or ls 0 falsity)) else fraction (to_int (map (lit_true s) ls)) r.denominator
+read_as s r ls = if eqb r.sort 0 then boolean (lit_true s (get_or ls 0 falsity)) otherwise fraction (to_int (map (lit_true s) ls)) r.denominator
 
 abbrev pub read_each : Assignment → List Record → List Cell → List Value
 read_each s [] cs = []
@@ -131,7 +131,7 @@ read_rows sheet s = read_each s sheet.records (cells sheet.rows)
 abbrev pub of_unknowns : List Fields → List Value → List ℤ
 of_unknowns [] vs = []
 of_unknowns (f ∷ fs) [] = []
-of_unknowns (f ∷ fs) (v ∷ vs) = if is_unknown (uses f.kind) then numerator v ∷ of_unknowns fs vs else of_unknowns fs vs
+of_unknowns (f ∷ fs) (v ∷ vs) = if is_unknown (uses f.kind) then numerator v ∷ of_unknowns fs vs otherwise of_unknowns fs vs
 
 unfoldable pub settings : Sheet → Assignment → List ℤ
 settings sheet s = of_unknowns sheet.rows (read_rows sheet s)

@@ -2,7 +2,7 @@
 use Rattle.std.specs.Prelude.{◌≡◌, Bool, true, false, not, ◌&&◌, ◌||◌, List, [], ◌∷◌, ◌++◌, ℕ, ◌*◌, ◌-◌, ◌/◌, ◌^◌, eqb, length, get_or, drop, ℤ, pos, neg_ℤ, ◌+ℤ◌, ◌-ℤ◌, ◌*ℤ◌}
 use Rattle.std.specs.Bool.{beq}
 use Rattle.std.specs.Int.Signed.{lt_z, le_z}
-use Rattle.whole.specs.Tests.{if◌then◌else◌, eq_z}
+use Rattle.whole.specs.Tests.{if◌then◌otherwise◌, eq_z}
 use Rattle.whole.specs.Bits.{bit}
 use Rattle.whole.specs.Divisors.{lcm}
 use Rattle.sheet.specs.declared.Kind.{Kind}
@@ -50,7 +50,7 @@ value_by Iff p x y z a b c v = boolean (beq (truth_of a) (truth_of b))
 value_by Sum p x y z a b c v = fraction (over (shared a b) a +ℤ over (shared a b) b) (shared a b)
 value_by Difference p x y z a b c v = fraction (over (shared a b) a -ℤ over (shared a b) b) (shared a b)
 value_by Product p x y z a b c v = fraction (numerator a *ℤ numerator b) (denominator a * denominator b)
-value_by Choice p x y z a b c v = fraction (if truth_of a then over (shared b c) b else over (shared b c) c) (shared b c)
+value_by Choice p x y z a b c v = fraction (if truth_of a then over (shared b c) b otherwise over (shared b c) c) (shared b c)
 value_by Greater p x y z a b c v = boolean (lt_z (over (shared a b) b) (over (shared a b) a))
 value_by Equal p x y z a b c v = boolean (eq_z (over (shared a b) a) (over (shared a b) b))
 
@@ -71,7 +71,7 @@ row_values rows vs = values_from [] rows vs
 -- the unknowns, in row order
 abbrev pub unknowns : List Fields → List Fields
 unknowns [] = []
-unknowns (f ∷ rows) = if is_unknown (uses f.kind) then f ∷ unknowns rows else unknowns rows
+unknowns (f ∷ rows) = if is_unknown (uses f.kind) then f ∷ unknowns rows otherwise unknowns rows
 
 -- within the declared bits; a Boolean is 0 or 1
 abbrev pub in_bits : Uses → (p : ℕ) → ℤ → Bool

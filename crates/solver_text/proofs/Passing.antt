@@ -9,7 +9,7 @@ use borrow.Author.Tests.{eq-eqb, ne_eqb}
 use lib.Dec.{eqb}
 use lib.ListN.{length, get_or, drop, length-append, drop_of_length-le}
 use lib.Seq.{drop-cons, drop-drop}
-use Rattle.whole.specs.Tests.{if◌then◌else◌}
+use Rattle.whole.specs.Tests.{if◌then◌otherwise◌}
 use Rattle.sheet.specs.Texts.{starts}
 use Rattle.solver_text.specs.declared.Step.TheVariants.{Next, Wrong}
 use Rattle.solver_text.specs.Passing.{passing}
@@ -44,7 +44,7 @@ module _ (part : List ℕ) (at : ℕ) (text : List ℕ) where
   unfolding passing
   passed end e = by (starts part (drop at text)) refl e
     where
-      by : (b : Bool) → starts part (drop at text) ≡ b → (if b then Next (at + length part) else Wrong) ≡ Next end
+      by : (b : Bool) → starts part (drop at text) ≡ b → (if b then Next (at + length part) otherwise Wrong) ≡ Next end
           → (starts part (drop at text) ≡ true) × (end ≡ at + length part)
       by true q e = (q, cc)
       by false q e = let z : ◌≡◌ {A = ℕ} 0 1 = cc in absurd (omega arith)
@@ -53,7 +53,7 @@ module _ (part : List ℕ) (at : ℕ) (text : List ℕ) where
   unfolding passing
   stopped e = by (starts part (drop at text)) refl e
     where
-      by : (b : Bool) → starts part (drop at text) ≡ b → (if b then Next (at + length part) else Wrong) ≡ Wrong → starts part (drop at text) ≡ false
+      by : (b : Bool) → starts part (drop at text) ≡ b → (if b then Next (at + length part) otherwise Wrong) ≡ Wrong → starts part (drop at text) ≡ false
       by true q e = let z : ◌≡◌ {A = ℕ} 0 1 = cc in absurd (omega arith)
       by false q e = q
 

@@ -9,7 +9,7 @@ use borrow.Author.Tests.{eqb-true, eq-eqb, ne_eqb}
 use lib.Dec.{eqb}
 use lib.ListN.{length, get_or, drop, length-append, length-drop, drop_of_length-le}
 use lib.Seq.{drop-cons, drop-drop}
-use Rattle.whole.specs.Tests.{if◌then◌else◌}
+use Rattle.whole.specs.Tests.{if◌then◌otherwise◌}
 use Rattle.sheet.specs.Texts.{ascii, decimal, variable_text, variable_texts, sign_at, signs_in, starts}
 use Rattle.solver_text.specs.Passing.{passing}
 use Rattle.solver_text.proofs.Passing.{starts-append, starts_long, pass_then, byte_there}
@@ -95,7 +95,7 @@ length_plain b k e = rw (ne_eqb b 0 e) (length-append (decimal k) (32 ∷ []))
 
 length_some : (b k : ℕ) → 1 ≤ length (variable_text b k)
 unfolding variable_text
-length_some b k = rw (length-append ((if eqb b 0 then ascii "-" else []) ++ decimal k) (32 ∷ [])) (omega arith)
+length_some b k = rw (length-append ((if eqb b 0 then ascii "-" otherwise []) ++ decimal k) (32 ∷ [])) (omega arith)
 
 -- the rest of a right line stands behind a variable, within the text
 module _ (text : List ℕ) (variables i at : ℕ) (h : i < variables) (stands : starts (line_here text variables i at) (drop at text) ≡ true) where

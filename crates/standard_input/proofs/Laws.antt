@@ -14,7 +14,7 @@ use mir.Syntax.{w32, w64}
 use mir.Val.{SFits, to_z, of_z}
 use mir.Facts.{to_z-of_z}
 use Rattle.libc.specs.Io.{Moved}
-use Rattle.whole.specs.Tests.{if◌then◌else◌, eq_z}
+use Rattle.whole.specs.Tests.{if◌then◌otherwise◌, eq_z}
 use Rattle.whole.proofs.Tests.{eq_z_iff}
 use Rattle.frame.proofs.Frames.{rest_all}
 use Rattle.standard_input.specs.declared.Progress.{Progress}
@@ -42,7 +42,7 @@ other_got (pos (suc n)) h = ne_eqb (suc n) 0 (λ e. absurd (omega (arith, e)))
 other_got (negsuc n) h = ne_eqb (suc n) 0 (λ e. absurd (omega (arith, e)))
 
 -- what holds of both answers of a test holds of the one that is taken
-pub of_test : {A : Type 0} (P : A → Type 0) (b : Bool) {x y : A} → (b ≡ true → P x) → (b ≡ false → P y) → P (if b then x else y)
+pub of_test : {A : Type 0} (P : A → Type 0) (b : Bool) {x y : A} → (b ≡ true → P x) → (b ≡ false → P y) → P (if b then x otherwise y)
 of_test P true f g = f refl
 of_test P false f g = g refl
 

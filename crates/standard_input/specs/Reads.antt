@@ -2,16 +2,16 @@
 use Rattle.std.specs.Prelude.{◌≡◌, Bool, true, false, List, [], ◌∷◌, ◌++◌, ℕ, ◌+◌, ◌-◌, ◌≤◌, eqb, length, ℤ, pos, nat_abs}
 use Rattle.std.specs.Int.Signed.{lt_z}
 use Rattle.libc.specs.Io.{Moved}
-use Rattle.whole.specs.Tests.{if◌then◌else◌, eq_z}
+use Rattle.whole.specs.Tests.{if◌then◌otherwise◌, eq_z}
 use Rattle.standard_input.specs.declared.Progress.{Progress}
 use Rattle.standard_input.specs.declared.Progress.TheVariants.{Going, Whole, Failed}
 
 -- `at` bytes of `size` were there before; a negative answer is a failed read, and error 4 (EINTR) an interrupted one; 0 is the end
 unfoldable pub after_read : (at patience size : ℕ) (got error : ℤ) → Progress
 after_read at patience size got error =
-    if lt_z got (pos 0) then (if eq_z error (pos 4) then if eqb patience 0 then Failed else Going at (patience - 1) else Failed) else
-    if eqb (nat_abs got) 0 then Whole at else
-    if eqb (at + nat_abs got) size then Whole (at + nat_abs got) else
+    if lt_z got (pos 0) then (if eq_z error (pos 4) then if eqb patience 0 then Failed otherwise Going at (patience - 1) otherwise Failed) otherwise
+    if eqb (nat_abs got) 0 then Whole at otherwise
+    if eqb (at + nat_abs got) size then Whole (at + nat_abs got) otherwise
     Going (at + nat_abs got) patience
 
 -- what a read answered, and what it left in errno

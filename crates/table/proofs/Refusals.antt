@@ -6,7 +6,7 @@ use Prim.Native.Nat.{ℕ, zero, suc, ◌-◌, ◌/◌, ◌%◌, ◌≤◌, ◌<�
 use native.Mathlib.Omega.{arith}
 use lib.Dec.{eqb, ltb}
 use lib.ListN.{length, get_or, take, drop}
-use Rattle.whole.specs.Tests.{if◌then◌else◌}
+use Rattle.whole.specs.Tests.{if◌then◌otherwise◌}
 use Rattle.circuit.specs.declared.Counts.{Counts}
 use Rattle.circuit.specs.Counting.{◌⊕◌, the_first}
 use Rattle.sheet.specs.declared.Named.{Named}
@@ -38,7 +38,7 @@ InOutcome (accepted sheet) = Unit {0}
 
 -- ---- a row
 
-if_read : (b : Bool) (f : Fields) → InReading (if b then Read f else Refused 4)
+if_read : (b : Bool) (f : Fields) → InReading (if b then Read f otherwise Refused 4)
 if_read true f = tt
 if_read false f = (omega arith, omega arith)
 
@@ -71,7 +71,7 @@ in_verdict earlier first (Read f) h =
 
 -- ---- a table
 
-if_refuses : (b : Bool) (n p : ℕ) (o : Outcome Sheet) → OneToTen n → InOutcome o → InOutcome (if b then refused n p else o)
+if_refuses : (b : Bool) (n p : ℕ) (o : Outcome Sheet) → OneToTen n → InOutcome o → InOutcome (if b then refused n p otherwise o)
 if_refuses true n p o h k = h
 if_refuses false n p o h k = k
 

@@ -7,7 +7,7 @@ use native.Mathlib.Omega.{arith}
 use lib.Dec.{eqb}
 use lib.ListN.{length, get_or, take, drop}
 use lib.Seq.{drop-drop, get_or-take, length-take-le}
-use Rattle.whole.specs.Tests.{if◌then◌else◌}
+use Rattle.whole.specs.Tests.{if◌then◌otherwise◌}
 use Rattle.circuit.specs.declared.Counts.{Counts}
 use Rattle.circuit.specs.Counting.{◌⊕◌, the_last}
 use Rattle.sheet.specs.declared.Reading.{Reading}
@@ -64,5 +64,5 @@ judged rs l r first (Refused n) e m k = refl
 -- the end, by the array's last row
 pub ending_at : (t : List ℕ) (l : List Record) (rows : ℕ) (so : Counts) → 0 < rows → rows ≤ length l
     → ending t (take rows l) so
-    ≡ (if eqb (get_or l (rows - 1) zeros).sort 1 then refused 10 (rows - 1) else accepted (record { rows = rows_of rows t; records = take rows l; counts = so ⊕ the_last }))
+    ≡ (if eqb (get_or l (rows - 1) zeros).sort 1 then refused 10 (rows - 1) otherwise accepted (record { rows = rows_of rows t; records = take rows l; counts = so ⊕ the_last }))
 ending_at t l rows so p n = rw (length-take-le rows l n, get_or-take rows l (rows - 1) missing (omega arith), any_default l (rows - 1) missing zeros (omega arith))

@@ -1,7 +1,7 @@
 -- The refusals of a table's length and of a verdict by their numbers; a row's references and its verdict; a table's outcome as the code has it, and the bounds that
 -- it keeps to. Assumes nothing.
 use Rattle.std.specs.Prelude.{not, List, [], ◌∷◌, ◌++◌, ℕ, ◌/◌, ◌%◌, ◌≤◌, min, eqb, ltb, length, take, drop, replicate}
-use Rattle.whole.specs.Tests.{if◌then◌else◌}
+use Rattle.whole.specs.Tests.{if◌then◌otherwise◌}
 use Rattle.circuit.specs.Counting.{nothing}
 use Rattle.sheet.specs.declared.Reading.{Reading}
 use Rattle.sheet.specs.declared.Reading.TheVariants.{Read, Refused}
@@ -16,7 +16,7 @@ use Rattle.table.specs.declared.answer.Survey.{Survey}
 
 -- each number is 0 where there is no refusal
 unfoldable pub refusal_of_length : ℕ → ℕ
-refusal_of_length n = if eqb n 0 then 1 else if not (eqb (n % 8) 0) then 1 else if ltb 256 (n / 8) then 2 else 0
+refusal_of_length n = if eqb n 0 then 1 otherwise if not (eqb (n % 8) 0) then 1 otherwise if ltb 256 (n / 8) then 2 otherwise 0
 
 abbrev pub number_of_verdict : Verdict → ℕ
 number_of_verdict (Pass r k) = 0

@@ -6,7 +6,7 @@ use Prim.Native.Nat.{ℕ, zero, suc}
 use native.Mathlib.Omega.{arith}
 use lib.ListN.{length}
 use lib.IntN.{ℤ}
-use Rattle.whole.specs.Tests.{if◌then◌else◌}
+use Rattle.whole.specs.Tests.{if◌then◌otherwise◌}
 use Rattle.whole.specs.Bits.{half, bits_of}
 use Rattle.circuit.specs.Literals.{Lit, Assignment, lit_true}
 use Rattle.circuit.specs.Numbers.{larger, unknown, muxes, choice}
@@ -20,7 +20,7 @@ unknown_traced s l (suc p) v = trace_new refl (λ x ex. trace_then (unknown_trac
 
 module _ (s : Assignment) (l : List Bool) (i : Lit) where
   muxes_traced : (w : ℕ) (xs ys : List Lit) (c : Bool) (x y : ℤ) → lit_true s i ≡ c → Places s w xs x → Places s w ys y
-      → Tracing s l (muxes i xs ys) l (bits_of w (if c then x else y)) (λ r. length r ≡ w)
+      → Tracing s l (muxes i xs ys) l (bits_of w (if c then x otherwise y)) (λ r. length r ≡ w)
   muxes_traced zero [] ys c x y e a b = trace_ret refl
   muxes_traced zero (j ∷ xs) ys c x y e a b = absurd a
   muxes_traced (suc w) [] ys c x y e a b = absurd a
@@ -32,6 +32,6 @@ module _ (s : Assignment) (l : List Bool) (i : Lit) where
 
   -- two numbers, in as many places as the wider has
   pub choice_traced : {n : ℕ} {xs ys : List Lit} {x y : ℤ} (c : Bool) → lit_true s i ≡ c → Reads s xs x → Reads s ys y → larger xs ys ≡ n
-      → Tracing s l (choice i xs ys) l (bits_of n (if c then x else y)) (λ r. length r ≡ n)
+      → Tracing s l (choice i xs ys) l (bits_of n (if c then x otherwise y)) (λ r. length r ≡ n)
   choice_traced {xs = xs} {ys = ys} {x = x} {y = y} c ec a b e =
       rw (← e) (muxes_traced (larger xs ys) _ _ c x y ec (places_read s (larger xs ys) a (omega arith)) (places_read s (larger xs ys) b (omega arith)))

@@ -7,7 +7,7 @@ use native.Mathlib.Omega.{arith}
 use lib.Dec.{eqb}
 use lib.ListN.{length}
 use lib.IntN.{ℤ, pos, ◌+ℤ◌, ◌*ℤ◌, +ℤ_idr}
-use Rattle.whole.specs.Tests.{if◌then◌else◌}
+use Rattle.whole.specs.Tests.{if◌then◌otherwise◌}
 use Rattle.whole.specs.Bits.{odd, half, bits_of, fewest}
 use Rattle.circuit.specs.Literals.{Lit, truth, falsity, Assignment, lit_true}
 use Rattle.circuit.specs.Circuits.{ret}
@@ -22,7 +22,7 @@ use Rattle.trace.proofs.Adding.{adder_traced}
 
 module _ (s : Assignment) (l : List Bool) where
   ands_traced : (n w : ℕ) (xs : List Lit) (i : Lit) (x : ℤ) (b : Bool) → n ≤ w → Places s w xs x → lit_true s i ≡ b
-      → Tracing s l (ands n xs i) l (bits_of n (if b then x else pos 0)) (λ r. Places s n r (if b then x else pos 0))
+      → Tracing s l (ands n xs i) l (bits_of n (if b then x otherwise pos 0)) (λ r. Places s n r (if b then x otherwise pos 0))
   ands_traced zero w xs i x b h a e = trace_ret tt
   ands_traced (suc n) zero xs i x b h a e = absurd (omega arith)
   ands_traced (suc n) (suc w) [] i x b h a e = absurd a
@@ -66,7 +66,7 @@ module _ (s : Assignment) (l : List Bool) where
   unfolding expanded_width
   expansion_traced et {w = w} {xs = xs} {x = x} f a e = trace_sem (by (eqb f 1)) (expansion_reads s et l f a)
     where
-      by : (one : Bool) → Tracing s l (if one then ret xs else product xs (constant (pos f))) l (if one then [] else multiplying (w + fewest (pos f)) x (pos f))
-          (λ r. length r ≡ (if one then w else w + fewest (pos f)))
+      by : (one : Bool) → Tracing s l (if one then ret xs otherwise product xs (constant (pos f))) l (if one then [] otherwise multiplying (w + fewest (pos f)) x (pos f))
+          (λ r. length r ≡ (if one then w otherwise w + fewest (pos f)))
       by true = trace_ret e
       by false = product_traced (ap not et) a (constant_reads s et (pos f)) e (constant_lits {n = 1} (pos f) (omega arith)).size

@@ -1,7 +1,7 @@
 -- What each gate of a row holds, in order of making, from the exact values and the widths of the rows that it refers to. No literal is
 -- needed for it: the bits of a row are those of its value. Assumes nothing.
 use Rattle.std.specs.Prelude.{◌≡◌, Bool, true, false, not, ◌&&◌, List, [], ◌∷◌, ◌++◌, ℕ, zero, suc, ◌+◌, ◌/◌, eqb, get_or, drop, ℤ, pos, negsuc, ◌+ℤ◌, ◌-ℤ◌}
-use Rattle.whole.specs.Tests.{if◌then◌else◌, eq_z}
+use Rattle.whole.specs.Tests.{if◌then◌otherwise◌, eq_z}
 use Rattle.whole.specs.Bits.{bit, odd, half, bits_of, fewest}
 use Rattle.circuit.specs.Gates.{xor_of, mux_of, maj_of}
 use Rattle.sheet.specs.declared.Kind.{Kind}
@@ -21,7 +21,7 @@ adding c (suc w) x y =
 
 -- x where the lowest bit of y is 1
 abbrev pub row_of : (x y : ℤ) → ℤ
-row_of x y = if odd y then x else pos 0
+row_of x y = if odd y then x otherwise pos 0
 
 -- the rows of y's further bits, w places each and one fewer with every row, added to the running total
 abbrev pub adding_rows : (w : ℕ) → (x y total : ℤ) → List Bool
@@ -33,7 +33,7 @@ multiplying zero x y = []
 multiplying (suc w) x y = bits_of (suc w) (row_of x y) ++ adding_rows w x (half y) (row_of x y)
 
 abbrev pub expanding : (width factor : ℕ) → ℤ → List Bool
-expanding w f x = if eqb f 1 then [] else multiplying (w + fewest (pos f)) x (pos f)
+expanding w f x = if eqb f 1 then [] otherwise multiplying (w + fewest (pos f)) x (pos f)
 
 -- x above y so far: g; at the sign y's bit stands in x's place
 abbrev pub exceeding : (g : Bool) → (w : ℕ) → (x y : ℤ) → List Bool
@@ -71,7 +71,7 @@ trace_by Iff p a b c k l m v = xor_of (truth_of k) (truth_of l) ∷ []
 trace_by Sum p a b c k l m v = bringing a b k l ++ adding false (larger a b + 1) (over (meeting a b) k) (over (meeting a b) l)
 trace_by Difference p a b c k l m v = bringing a b k l ++ adding true (larger a b + 1) (over (meeting a b) k) (turned (over (meeting a b) l))
 trace_by Product p a b c k l m v = multiplying (a.width + b.width) (numerator k) (numerator l)
-trace_by Choice p a b c k l m v = bringing b c l m ++ bits_of (larger b c) (if truth_of k then over (meeting b c) l else over (meeting b c) m)
+trace_by Choice p a b c k l m v = bringing b c l m ++ bits_of (larger b c) (if truth_of k then over (meeting b c) l otherwise over (meeting b c) m)
 trace_by Greater p a b c k l m v = bringing a b k l ++ exceeding false (larger a b) (over (meeting a b) k) (over (meeting a b) l)
 trace_by Equal p a b c k l m v = bringing a b k l ++ equalling true (larger a b) (over (meeting a b) k) (over (meeting a b) l)
 

@@ -9,7 +9,7 @@ use lib.IntN.{ℤ}
 use lib.ListN.{length, get_or, take, get_or-eq_default}
 use lib.Seq.{get_or-take, length-take-le}
 use borrow.Author.Tests.{ltb-true, ltb-false}
-use Rattle.whole.specs.Tests.{if◌then◌else◌}
+use Rattle.whole.specs.Tests.{if◌then◌otherwise◌}
 use Rattle.circuit.specs.declared.Counts.{Counts}
 use Rattle.circuit.specs.Literals.{falsity, slots_of}
 use Rattle.circuit.specs.Circuits.{gates, clauses_from}
@@ -139,7 +139,7 @@ module _ {table : List ℕ} {rows : ℕ} {records : List Record} {map₀ slots�
     unfolding cell_or
     walking_operand x {o} q = by (ltb x r) refl q.is_cell q.is_record
       where
-        by : (t : Bool) → ltb x r ≡ t → cell_of o ≡ (if t then cell_in map x (get_or records (min x r) zeros) else cell (falsity ∷ []) 1) → o.record ≡ (if t then get_or records (min x r) zeros else missing) → Is x o
+        by : (t : Bool) → ltb x r ≡ t → cell_of o ≡ (if t then cell_in map x (get_or records (min x r) zeros) otherwise cell (falsity ∷ []) 1) → o.record ≡ (if t then get_or records (min x r) zeros otherwise missing) → Is x o
         by true k e f =
             let i = ltb-true x r k in
             let s = read_record x i in

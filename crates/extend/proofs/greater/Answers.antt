@@ -9,7 +9,7 @@ use lib.IntN.{ℤ}
 use mir.Syntax.{w64}
 use mir.Val.{to_z, of_z}
 use mir.Facts.{to_z-of_z}
-use Rattle.whole.specs.Tests.{if◌then◌else◌}
+use Rattle.whole.specs.Tests.{if◌then◌otherwise◌}
 use Rattle.whole.specs.Bits.{half}
 use Rattle.arithmetic.proofs.Words.{kept}
 use Rattle.trace.specs.Traces.{exceeding}
@@ -33,7 +33,7 @@ module _ (d : After-deciding-c) where
   abbrev z : ℤ
   z = to_z w64 (of_z w64 d.deciding-c.result)
 
-  decides : z ≡ (if eqb d.loop-left.left 1 then y else x)
+  decides : z ≡ (if eqb d.loop-left.left 1 then y otherwise x)
   decides = kept d.deciding-c.result d.deciding-c.ok ∙ d.deciding-c.ensures
 
   room : Room d.loop-left.place (comparing d.loop-left.g x y z) d.loop-left.model-1

@@ -3,7 +3,7 @@ use mathlib.Core.Path.{◌≡◌, ◌∙◌}
 use borrow.Author.Rules.{rules}
 use mir.Syntax.{w64}
 use mir.Val.{to_z, of_z}
-use Rattle.whole.specs.Tests.{if◌then◌else◌}
+use Rattle.whole.specs.Tests.{if◌then◌otherwise◌}
 use Rattle.arithmetic.proofs.Words.{kept}
 use Rattle.extend.proofs.Putting.{room_first, room_next, put_then}
 use Rattle.number_extender.specs.Operands.{is_true, both_brought, left, right}
@@ -23,7 +23,7 @@ module _ (h : After-choice) where
   abbrev start : Start
   start = of
 
-  is-chosen : to_z w64 (of_z w64 h.choice.result) ≡ (if is_true start.args.a then left start.args.b start.args.c else right start.args.b start.args.c)
+  is-chosen : to_z w64 (of_z w64 h.choice.result) ≡ (if is_true start.args.a then left start.args.b start.args.c otherwise right start.args.b start.args.c)
   is-chosen =
       let m = start.pre.0 in
       let b = of.bring-p.ensures in

@@ -1,7 +1,7 @@
 -- `row::read_row` meets its contract. Assumes nothing.
 use mathlib.Core.Path.{◌≡◌, sym, ◌∙◌}
 use borrow.Author.Rules.{rules}
-use Rattle.whole.specs.Tests.{if◌then◌else◌}
+use Rattle.whole.specs.Tests.{if◌then◌otherwise◌}
 use Rattle.sheet.specs.declared.Reading.TheVariants.{Read, Refused}
 use Rattle.sheet.specs.Rows.{read_row}
 use Rattle.row.proofs.Answers.{read_unknown, read_known}
@@ -12,7 +12,7 @@ pub returns-in_default : goal.returns-in_default
 returns-in_default c = record { answer = read_unknown _ (sym c.kind_of-named.ensures.answer ∙ c.in_default.is) }
 
 read : (c : After-unused_are_zero) → let f = c in let k = f in
-    (if c.unused_are_zero.result then Read f.fields-f.result else Refused 4) ≡ read_row k.args.row.now
+    (if c.unused_are_zero.result then Read f.fields-f.result otherwise Refused 4) ≡ read_row k.args.row.now
 read c =
     let f = c in
     let k = f in
