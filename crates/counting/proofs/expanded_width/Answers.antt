@@ -8,8 +8,8 @@ use Rattle.counting.proofs.expanded_width.Goals as goal
 
 pub returns-then-factor-eq1 : goal.returns-then-factor-eq1
 unfolding expanded_width
-returns-then-factor-eq1 c = rw (eq-eqb _ _ c.if-factor-eq1.true) (refl, omega arith)
+returns-then-factor-eq1 c = rw (eq-eqb _ _ c.if-factor-eq1.true) (record { answer = refl; bounded = omega arith })
 
 pub returns : goal.returns
 unfolding expanded_width
-returns c = rw (ne_eqb _ _ c.if-factor-eq1.false, ← c.bits.ensures.value) (refl, omega arith)
+returns c = rw (ne_eqb _ _ c.if-factor-eq1.false, ← c.bits.ensures.value) (record { answer = refl; bounded = omega arith })

@@ -18,4 +18,6 @@ overflow_mul-result-4 c = let s = c in omega (arith, bits_times s.requires.n_mos
 
 pub returns : goal.returns
 returns c =
-    let (h, k) = c.requires in record { answer = refl; bounded = record { unknowns = bits_times h k.unknowns; variables = bits_times h k.variables; clauses = bits_times h k.clauses; slots = bits_times h k.slots } }
+    let h = c.requires.n_most in
+    let k = c.requires.below_a in
+    record { answer = refl; bounded = record { unknowns = bits_times h k.unknowns; variables = bits_times h k.variables; clauses = bits_times h k.clauses; slots = bits_times h k.slots } }

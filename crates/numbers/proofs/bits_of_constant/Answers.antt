@@ -15,4 +15,4 @@ as_many false n = refl
 
 pub returns : goal.returns
 returns c =
-    let k = c.constant-c in record { value = c.bits.ensures.value ∙ as_many k.result.negative k.result.magnitude ∙ ap fewest k.ensures.0; few = c.bits.ensures.few }
+    let k = c.constant-c in record { value = c.bits.ensures.value ∙ as_many k.result.negative k.result.magnitude ∙ ap fewest k.ensures.value; few = c.bits.ensures.few }

@@ -1,5 +1,10 @@
 -- `row::kind_of` meets its contract: each arm's key decides the tests before it, and no key leaves the last answer. Assumes nothing.
+use mathlib.Core.Path.{◌≡◌}
+use mathlib.Core.Logic.{◌≢◌}
+use Prim.Native.Nat.{ℕ}
+use native.Mathlib.Omega.{arith}
 use borrow.Author.Tests.{ne_eqb}
+use Rattle.sheet.specs.declared.Named.TheVariants.{Unknown}
 use Rattle.sheet.specs.Rows.{kind_of}
 use Rattle.row.proofs.kind_of.Goals as goal
 
@@ -67,22 +72,11 @@ pub returns-in-49 : goal.returns-in-49
 unfolding kind_of
 returns-in-49 c = record { answer = rw c.in-49.is }
 
-pub returns-in_default : goal.returns-in_default
+-- no key is k
+unnamed : (k : ℕ) → k ≢ 0x00 → k ≢ 0x01 → k ≢ 0x02 → k ≢ 0x03 → k ≢ 0x04 → k ≢ 0x10 → k ≢ 0x11 → k ≢ 0x12 → k ≢ 0x13 → k ≢ 0x14 → k ≢ 0x20 → k ≢ 0x21 → k ≢ 0x22 → k ≢ 0x23 → k ≢ 0x30 → k ≢ 0x31 → Unknown ≡ kind_of k
 unfolding kind_of
-returns-in_default c =
-    let (r31, not31) = c.in_default.in_default-own.rest in
-    let (r30, not30) = r31 in
-    let (r23, not23) = r30 in
-    let (r22, not22) = r23 in
-    let (r21, not21) = r22 in
-    let (r20, not20) = r21 in
-    let (r14, not14) = r20 in
-    let (r13, not13) = r14 in
-    let (r12, not12) = r13 in
-    let (r11, not11) = r12 in
-    let (r10, not10) = r11 in
-    let (r04, not04) = r10 in
-    let (r03, not03) = r04 in
-    let (r02, not02) = r03 in
-    let (r01, not01) = r02 in
-    let (r00, not00) = r01 in record { answer = rw (ne_eqb _ _ not00, ne_eqb _ _ not01, ne_eqb _ _ not02, ne_eqb _ _ not03, ne_eqb _ _ not04, ne_eqb _ _ not10, ne_eqb _ _ not11, ne_eqb _ _ not12, ne_eqb _ _ not13, ne_eqb _ _ not14, ne_eqb _ _ not20, ne_eqb _ _ not21, ne_eqb _ _ not22, ne_eqb _ _ not23, ne_eqb _ _ not30, ne_eqb _ _ not31) }
+unnamed k h00 h01 h02 h03 h04 h10 h11 h12 h13 h14 h20 h21 h22 h23 h30 h31 =
+    rw (ne_eqb _ _ h00, ne_eqb _ _ h01, ne_eqb _ _ h02, ne_eqb _ _ h03, ne_eqb _ _ h04, ne_eqb _ _ h10, ne_eqb _ _ h11, ne_eqb _ _ h12, ne_eqb _ _ h13, ne_eqb _ _ h14, ne_eqb _ _ h20, ne_eqb _ _ h21, ne_eqb _ _ h22, ne_eqb _ _ h23, ne_eqb _ _ h30, ne_eqb _ _ h31)
+
+pub returns-in_default : goal.returns-in_default
+returns-in_default c = record { answer = unnamed c.args.k (omega arith) (omega arith) (omega arith) (omega arith) (omega arith) (omega arith) (omega arith) (omega arith) (omega arith) (omega arith) (omega arith) (omega arith) (omega arith) (omega arith) (omega arith) (omega arith) }

@@ -1,34 +1,26 @@
 -- `table::check_core` meets its contract. Assumes nothing.
-use borrow.Author.Rules.{rules}
 use borrow.Author.Tests.{lt-ltb, le-ltb}
 use Rattle.sheet.specs.Acceptance.{accept}
 use Rattle.sheet.specs.Calls.{checking}
 use Rattle.table.proofs.Answers.{accept_numbered, was_accepted, was_refused}
 use Rattle.table.proofs.check_core.Goals as goal
 
-pub returns-then-s-ne0 : goal.returns-then-s-ne0
+pub returns-then-s-ne0-clause-answer : goal.returns-then-s-ne0-clause-answer
 unfolding checking
-returns-then-s-ne0 c =
-    let v = c in
-    let (value, bounds) = v.survey-s.ensures in
-    let (n, p, is, e) = was_refused (accept v.args.table.now) value c.if-s-ne0.true in record { answer = rw is e; bounds = bounds }
+returns-then-s-ne0-clause-answer c =
+    let (n, p, is, e) = was_refused (accept c.args.table.now) c.survey-s.ensures.answer c.if-s-ne0.true in
+    rw is e
 
-pub returns-then-room-s : goal.returns-then-room-s
+pub returns-then-room-s-clause-answer : goal.returns-then-room-s-clause-answer
 unfolding checking
-returns-then-room-s c =
-    let e = c in
-    let n = e in
-    let v = n in
-    let s = v in
-    let table = s.args.table.now in
-    let (value, bounds) = c.refused.ensures in
-    let (sheet, is, f) = was_accepted (accept table) v.survey-s.ensures.answer (accept_numbered table) n.if-s-ne0.false in record { answer = rw (is, lt-ltb _ _ (rw f at e.if-room-s.true)) (rw f at value); bounds = bounds }
+returns-then-room-s-clause-answer c =
+    let table = c.args.table.now in
+    let (sheet, is, f) = was_accepted (accept table) c.survey-s.ensures.answer (accept_numbered table) c.if-s-ne0.false in
+    rw (is, lt-ltb _ _ (rw f at c.if-room-s.true)) (rw f at c.refused.ensures.answer)
 
-pub returns : goal.returns
+pub returns-clause-answer : goal.returns-clause-answer
 unfolding checking
-returns c =
-    let n = c in
-    let v = n in
-    let table = v.args.table.now in
-    let (value, bounds) = v.survey-s.ensures in
-    let (sheet, is, f) = was_accepted (accept table) value (accept_numbered table) n.if-s-ne0.false in record { answer = rw (is, le-ltb _ _ (rw f at c.if-room-s.false)) f; bounds = bounds }
+returns-clause-answer c =
+    let table = c.args.table.now in
+    let (sheet, is, f) = was_accepted (accept table) c.survey-s.ensures.answer (accept_numbered table) c.if-s-ne0.false in
+    rw (is, le-ltb _ _ (rw f at c.if-room-s.false)) f

@@ -1,24 +1,15 @@
 -- `table::survey` meets its contract. What is left: the walk of the rows that are left, after the records so far, is acceptance.
 -- Assumes nothing.
-use mathlib.Core.Path.{◌≡◌, refl, sym, ap, ◌∙◌}
+use mathlib.Core.Path.{◌≡◌}
 use mathlib.Core.List.{List}
-use Prim.Native.Nat.{ℕ, ◌+◌, ◌*◌, ◌-◌, ◌/◌, ◌≤◌, ◌<◌, min}
-use native.Mathlib.Nat.{add-sub_cancel_left, sub-zero}
-use native.Mathlib.Omega.{arith}
-use borrow.Author.Rules.{rules}
-use lib.ListN.{length, get_or, take, drop, length-set}
-use lib.Seq.{length-take-le}
+use Prim.Native.Nat.{ℕ, ◌+◌, ◌*◌, ◌-◌, ◌≤◌}
+use lib.ListN.{length, take, drop}
 use Rattle.circuit.specs.declared.Counts.{Counts}
 use Rattle.sheet.specs.declared.Record.{Record}
-use Rattle.sheet.specs.Rows.{read_row}
-use Rattle.sheet.specs.Acceptance.{record_at, judge, walk, accept}
-use Rattle.judge.specs.Bounds.{InLimits}
+use Rattle.sheet.specs.Acceptance.{walk, accept}
 use Rattle.counting.specs.Bounds.{Below}
-use Rattle.counting.proofs.Bounds.{plus_below}
-use Rattle.table.specs.Surveys.{number_of_verdict, blank, AllInLimits}
-use Rattle.table.proofs.Lengths.{Whole, is_refused, is_walked}
-use Rattle.table.proofs.Earlier.{fill, take_more, limits_more, zeros, looked}
-use Rattle.table.proofs.Walking.{walk_pass, walk_stop, walk_end, Near, nearby, judged}
+use Rattle.table.specs.Surveys.{blank, AllInLimits}
+use Rattle.table.proofs.Lengths.{Whole}
 use Rattle.table.proofs.survey.Given as goal
 
 -- nothing is written past the records so far, and all keep to their bounds

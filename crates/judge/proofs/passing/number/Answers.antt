@@ -1,8 +1,7 @@
 -- `judge::passing::number` meets its contract. Assumes nothing.
-use borrow.Author.Rules.{rules}
 use Rattle.sheet.specs.Acceptance.{number_plan}
 use Rattle.judge.proofs.Settled.{passes}
 use Rattle.judge.proofs.passing.number.Goals as goal
 
-pub returns : goal.returns
-returns c = record { answer = passes _ (number_plan _ _ _) c.requires.denominator_denominator.most c.requires.width_most; bounded = search rules }
+pub returns-clause-answer : goal.returns-clause-answer
+returns-clause-answer c = passes _ (number_plan _ _ _) c.requires.denominator_denominator.most c.requires.width_most
