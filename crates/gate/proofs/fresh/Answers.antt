@@ -12,4 +12,4 @@ use Rattle.gate.proofs.fresh.Goals as goal
 pub returns : goal.returns
 returns c =
     let h : c.args.next + 1 < 2147483648 = omega arith in
-    rw (to_z_pos w32 h, add-one) (refl, lit_of c.args.next c.requires)
+    rw (to_z_pos w32 h, add-one) (record { result_is = refl; is_lit = lit_of c.args.next c.requires })
