@@ -17,7 +17,7 @@ use Rattle.frame.specs.Literals.{unslot, literals, literal_at, between, IsLit, A
 
 -- a signed number that was put into a local is read back
 pub held : (x : ℤ) → mag x < 2147483648 → to_z w32 (of_z w32 x) ≡ x
-held x h = to_z-of_z (record { sfits = h })
+held x h = to_z-of_z {w = w32} {z = x} (record { sfits = h })
 
 -- and so is a literal
 pub held_lit : (x : ℤ) → IsLit x → to_z w32 (of_z w32 x) ≡ x

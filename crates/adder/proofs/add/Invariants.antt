@@ -1,23 +1,10 @@
 -- `adder::add` meets its contract. Assumes nothing.
-use mathlib.Core.Path.{◌≡◌, refl}
 use mathlib.Core.List.{List}
-use Prim.Native.Nat.{ℕ, ◌+◌, ◌-◌, ◌≤◌}
-use borrow.Author.Rules.{rules}
-use native.Mathlib.Omega.{arith}
-use lib.IntN.{ℤ, pos}
-use lib.ListN.{length, get_or}
-use mir.Syntax.{w32}
-use mir.Val.{to_z}
-use mir.Facts.{to_z-of_z}
-use Rattle.circuit.specs.Literals.{plus, slot}
-use Rattle.frame.specs.Literals.{unslot, literal_at, IsLit, AllLit}
-use Rattle.frame.specs.Written.{written}
-use Rattle.frame.proofs.Frames.{lent}
-use Rattle.frame.proofs.Literals.{answered, held_lit, lit_held, literals_put}
-use Rattle.frame.proofs.Writing.{wrote_of, Turn, left_turn}
-use Rattle.frame.proofs.Loops.{Filling, filling_all, filling_turn, filling_end}
-use Rattle.adder.specs.Adding.{bit_gates, adding}
-use Rattle.adder.proofs.Turns.{gates_at, out_at, gates_end, out_end}
+use Prim.Native.Nat.{ℕ, ◌-◌}
+use lib.IntN.{ℤ}
+use Rattle.frame.specs.Literals.{IsLit, AllLit}
+use Rattle.frame.proofs.Loops.{Filling}
+use Rattle.adder.specs.Adding.{adding}
 use Rattle.adder.proofs.add.Given as goal
 
 -- the places below i are added, with the carry c
@@ -27,7 +14,7 @@ pub record Turns (slots₀ : List ℤ) (from low w : ℕ) (carry : ℤ) (first :
   pub filling : Filling from first (adding carry x y low w) x low w slots₀ slots at n bits i (adding c x y i w)
 
 abbrev pub invariant-loop-i : goal.invariant-loop-i
-invariant-loop-i l = Turns l.initial.slots l.from l.low l.width (to_z w32 l.carry) l.first l.x l.y l.slots l.bits l.at (to_z w32 l.c) l.next l.i
+invariant-loop-i l = Turns l.initial.slots l.from l.low l.width l.carry l.first l.x l.y l.slots l.bits l.at l.c l.next l.i
 
 abbrev pub decreases-loop-i : goal.decreases-loop-i
 decreases-loop-i l = l.width - l.i

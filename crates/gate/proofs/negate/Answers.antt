@@ -14,4 +14,4 @@ pub returns : goal.returns
 returns c =
     let x = c.args.x in
     let e : slot (neg (unslot x)) ≡ neg_ℤ x = slot-neg (unslot x) ∙ ap neg_ℤ (slot-unslot x c.requires) in
-    rw (to_z-of_z c.ranges.x, minus_zero, to_z-of_z (neg_fits x c.requires)) (sym e, lit-neg x c.requires)
+    rw (to_z-of_z c.ranges.x, minus_zero, to_z-of_z (neg_fits x c.requires)) (record { result_is = sym e; is_lit = lit-neg x c.requires })

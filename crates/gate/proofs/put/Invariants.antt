@@ -1,14 +1,8 @@
 -- `gate::put` meets its contract. Assumes nothing.
-use Prim.Native.Nat.{◌≤◌, ◌<◌, ◌-◌}
-use lib.IntN.{pos}
-use lib.Seq.{take_all}
-use mathlib.Core.Path.{◌≡◌, refl, ◌∙◌}
-use borrow.Author.Rules.{rules}
-use native.Mathlib.Omega.{arith}
-use lib.ListN.{length, take, length-set}
-use mir.Facts.{to_z-of_z}
+use Prim.Native.Nat.{◌≤◌, ◌-◌}
+use mathlib.Core.Path.{◌≡◌}
+use lib.ListN.{length, take}
 use Rattle.frame.specs.Frame.{front}
-use Rattle.frame.proofs.Frames.{front_more, front_none}
 use Rattle.gate.proofs.put.Given as goal
 
 abbrev pub invariant-loop-i : goal.invariant-loop-i
