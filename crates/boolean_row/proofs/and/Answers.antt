@@ -10,19 +10,18 @@ use Rattle.boolean_row.proofs.and.Goals as goal
 
 pub conjunction-requires : goal.conjunction-requires
 conjunction-requires c =
-    let s = c in
     let la = c.literal.ensures in
-    let lb = c.literal-2.ensures in record { is_lit_a = lit_held c.literal.result la.1; is_lit_b = (
-        lit_held c.literal-2.result lb.1,
-        rw (held_lit c.literal.result la.1, held_lit c.literal-2.result lb.1, la.0, lb.0) s.requires.room,
-      ); room =  }
+    let lb = c.literal-2.ensures in
+    record {
+      is_lit_a = lit_held c.literal.result la.is_lit;
+      is_lit_b = lit_held c.literal-2.result lb.is_lit;
+      room = rw (held_lit c.literal.result la.is_lit, held_lit c.literal-2.result lb.is_lit, la.unslot_is, lb.unslot_is) c.requires.room;
+    }
 
 pub returns : goal.returns
 returns c =
-    let p = c in
-    let q = p in
-    let s = q in
-    let la = q.literal.ensures in
-    let lb = q.literal-2.ensures in
-    let d = rw (held_lit q.literal.result la.1, held_lit q.literal-2.result lb.1, la.0, lb.0) at p.conjunction.ensures in
-    single_made (make (and (lit (cell_of s.args.a)) (lit (cell_of s.args.b)))) d c.single.ensures
+    let la = c.literal.ensures in
+    let lb = c.literal-2.ensures in
+    let d = rw (held_lit c.literal.result la.is_lit, held_lit c.literal-2.result lb.is_lit, la.unslot_is, lb.unslot_is) at c.conjunction.ensures in
+    let e = c.single.ensures in
+    single_made (make (and (lit (cell_of c.args.a)) (lit (cell_of c.args.b)))) d (e.literals_in_is, (e.is_number_number, (e.at_is, e.next_is)))

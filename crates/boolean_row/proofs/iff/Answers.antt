@@ -10,21 +10,20 @@ use Rattle.boolean_row.proofs.iff.Goals as goal
 
 pub exclusive-requires : goal.exclusive-requires
 exclusive-requires c =
-    let s = c in
     let la = c.literal.ensures in
-    let lb = c.literal-2.ensures in record { is_lit_a = lit_held c.literal.result la.1; is_lit_b = (
-        lit_held c.literal-2.result lb.1,
-        rw (held_lit c.literal.result la.1, held_lit c.literal-2.result lb.1, la.0, lb.0) s.requires.room,
-      ); room =  }
+    let lb = c.literal-2.ensures in
+    record {
+      is_lit_a = lit_held c.literal.result la.is_lit;
+      is_lit_b = lit_held c.literal-2.result lb.is_lit;
+      room = rw (held_lit c.literal.result la.is_lit, held_lit c.literal-2.result lb.is_lit, la.unslot_is, lb.unslot_is) c.requires.room;
+    }
 
 pub returns : goal.returns
 returns c =
-    let n = c in
-    let p = n in
-    let q = p in
-    let s = q in
-    let la = q.literal.ensures in
-    let lb = q.literal-2.ensures in
-    let d = rw (held_lit q.literal.result la.1, held_lit q.literal-2.result lb.1, la.0, lb.0) at p.exclusive.ensures in
-    let g = make (xor (lit (cell_of s.args.a)) (lit (cell_of s.args.b))) in
-    single_made (negated g) (not_made g d n.not.ensures) c.single.ensures
+    let la = c.literal.ensures in
+    let lb = c.literal-2.ensures in
+    let d = rw (held_lit c.literal.result la.is_lit, held_lit c.literal-2.result lb.is_lit, la.unslot_is, lb.unslot_is) at c.exclusive.ensures in
+    let n = c.not.ensures in
+    let e = c.single.ensures in
+    let g = make (xor (lit (cell_of c.args.a)) (lit (cell_of c.args.b))) in
+    single_made (negated g) (not_made g d (n.literal_is, (n.is_lit_literal, (n.at_is, n.next_is)))) (e.literals_in_is, (e.is_number_number, (e.at_is, e.next_is)))

@@ -10,9 +10,8 @@ use Rattle.boolean_row.proofs.literal.Goals as goal
 
 pub returns : goal.returns
 returns c =
-    let s = c in
-    let n = s.args.a.number in
-    let long : length n.bits-1 ≡ 48 = search rules in
-    let x = get_or n.bits-1 0 (pos 0) in
-    let p = s.requires.all 0 (omega (arith, s.requires.some)) in
-    rw (held_lit x p) (first_literal n.width n.bits-1 s.requires.some (omega (arith, s.requires.fits)), p)
+    let n = c.args.a.number in
+    let long : length n.bits ≡ 48 = search rules in
+    let x = get_or n.bits 0 (pos 0) in
+    let p = c.requires.all 0 (omega (arith, c.requires.some)) in
+    rw (held_lit x p) (record { unslot_is = first_literal n.width n.bits c.requires.some (omega (arith, c.requires.fits)); is_lit = p })

@@ -11,8 +11,7 @@ use Rattle.boolean_row.proofs.negation.Goals as goal
 
 pub returns : goal.returns
 returns c =
-    let q = c in
-    let k = q.opposite.ensures in
-    let e = rw (held_lit q.opposite.result k.1) at c.single.ensures in
-    let l = neg (lit (cell_of q.args.a)) in
-    λ slots. single_made (ret l) (known_made slots l (sym (slot-unslot q.opposite.result k.1) ∙ ap slot k.0, k.1)) e
+    let k = c.opposite.ensures in
+    let e = rw (held_lit c.opposite.result k.is_lit) at c.single.ensures in
+    let l = neg (lit (cell_of c.args.a)) in
+    λ slots. single_made (ret l) (known_made slots l (sym (slot-unslot c.opposite.result k.is_lit) ∙ ap slot k.unslot_is, k.is_lit)) (e.literals_in_is, (e.is_number_number, (e.at_is, e.next_is)))

@@ -6,6 +6,5 @@ use Rattle.boolean_row.proofs.not.Goals as goal
 
 pub returns : goal.returns
 returns c =
-    let s = c in
-    let e = rw (held_lit s.args.t.literal s.requires) at c.negate.ensures in
-    rw (held_lit c.negate.result e.1) (e.0, (e.1, (refl, refl)))
+    let e = rw (held_lit c.args.t.literal c.requires) at c.negate.ensures in
+    rw (held_lit c.negate.result e.is_lit) (record { literal_is = e.result_is; is_lit_literal = e.is_lit; at_is = refl; next_is = refl })

@@ -10,7 +10,9 @@ use Rattle.boolean_row.proofs.opposite.Goals as goal
 
 pub returns : goal.returns
 returns c =
-    let q = c in
-    let k = q.literal.ensures in
-    let n = rw (held_lit q.literal.result k.1, k.0) at c.negate.ensures in
-    rw (held_lit c.negate.result n.1) (ap unslot n.0 ∙ unslot-slot (neg (lit (cell_of q.args.a))), n.1)
+    let k = c.literal.ensures in
+    let n = rw (held_lit c.literal.result k.is_lit, k.unslot_is) at c.negate.ensures in
+    rw (held_lit c.negate.result n.is_lit) (record {
+      unslot_is = ap unslot n.result_is ∙ unslot-slot (neg (lit (cell_of c.args.a)));
+      is_lit = n.is_lit;
+    })

@@ -7,7 +7,6 @@ use lib.IntN.{ℤ, pos, negsuc}
 use lib.ListN.{get_or, replicate}
 use Rattle.frame.specs.Literals.{IsLit}
 use Rattle.frame.proofs.Literals.{held_lit}
-use borrow.Author.Rules.{rules}
 use Rattle.boolean_row.proofs.single.Goals as goal
 
 first : (x : ℤ) → IsLit x → (i : ℕ) → i < 1 → IsLit (get_or (x ∷ replicate 47 (negsuc 0)) i (pos 0))
@@ -18,4 +17,9 @@ pub returns : goal.returns
 returns c =
     let x = c.args.t.literal in
     let p = c.requires in
-    rw (held_lit x p) (refl, (record { some = omega arith; fits = omega arith; all = first x p }, (refl, refl)))
+    rw (held_lit x p) (record {
+      literals_in_is = refl;
+      is_number_number = record { some = omega arith; fits = omega arith; all = first x p };
+      at_is = refl;
+      next_is = refl;
+    })

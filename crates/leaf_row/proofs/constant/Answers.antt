@@ -15,8 +15,6 @@ use Rattle.leaf_row.proofs.constant.Goals as goal
 
 pub returns : goal.returns
 returns c =
-    let k = c in
-    let s = k in
-    let h = rw k.constant-c.ensures.value at c.constant-number.ensures in
-    let ls = constant (constant_in s.args.x s.args.y) in
-    λ z. known_row z (ret ls) (written_none s.args.first) refl (sym (add-zero s.args.first)) (ap literals {y = map slot ls} h.0 ∙ literals_of ls, h.1)
+    let h = rw c.constant-c.ensures.value at c.constant-number.ensures in
+    let ls = constant (constant_in c.args.x c.args.y) in
+    λ z. known_row z (ret ls) (written_none c.args.first) refl (sym (add-zero c.args.first)) (ap literals {y = map slot ls} h.slots_in_is ∙ literals_of ls, h.is_number)

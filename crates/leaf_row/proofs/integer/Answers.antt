@@ -4,6 +4,4 @@ use borrow.Author.Rules.{rules}
 use Rattle.leaf_row.proofs.integer.Goals as goal
 
 pub returns : goal.returns
-returns c =
-    let s = c in
-    λ z. integer_row z s.args.from s.args.first s.args.p c.variables-bits.ensures s.requires.first_below s.requires.p_least s.requires.p_most
+returns c = λ z. integer_row z c.args.from c.args.first c.args.p c.variables-bits.ensures c.requires.first_below c.requires.p_least c.requires.p_most

@@ -11,13 +11,11 @@ loop-i-init c = (omega arith, omega arith, refl)
 
 pub loop-i-preserved : goal.loop-i-preserved
 loop-i-preserved c =
-    let t = c in
     let k = c.fresh-l.ensures in
-    rw (held_lit c.fresh-l.result k.1, k.0) (omega arith, omega arith, rw (t.loop-i.invariant.2, t.loop-i.invariant.1) (standing_more t.args.first t.loop-i.i (omega arith)))
+    let v = c.loop-i.invariant in
+    rw (held_lit c.fresh-l.result k.is_lit, k.result_is) (omega arith, omega arith, rw (v.2, v.1) (standing_more c.args.first c.loop-i.i (omega arith)))
 
 pub returns : goal.returns
 returns c =
-    let t = c in
-    let s = t in
-    let e : t.loop-i.i ≡ s.args.p = omega arith in
-    rw (unknown_out s.args.first s.args.p) (t.loop-i.invariant.2 ∙ ap (standing s.args.first) e)
+    let e : c.loop-i.i ≡ c.args.p = omega arith in
+    rw (unknown_out c.args.first c.args.p) (c.loop-i.invariant.2 ∙ ap (standing c.args.first) e)

@@ -12,22 +12,22 @@ use Rattle.literal_map.proofs.refer.Goals as goal
 
 pub load-number-requires : goal.load-number-requires
 load-number-requires c =
-    let s = c in
-    let h = s.requires (omega arith) in record { width_most = h.narrow; map_room = h.long; all_lit = h.all }
+    let h = c.requires (omega arith) in
+    record { width_most = h.narrow; map_room = h.long; all_lit = h.all }
 
 pub returns-then-x-rows : goal.returns-then-x-rows
 returns-then-x-rows c =
-    let s = c in
-    let m = s.args.map.now in
-    let rows = s.args.rows in
-    let x = s.args.x in
-    let r = s.args.of in
+    let m = c.args.map.now in
+    let rows = c.args.rows in
+    let x = c.args.x in
+    let r = c.args.of in
     let e = c.load-number.ensures in
-    let h = s.requires (omega arith) in
+    let h = c.requires (omega arith) in
+    let w = e.width_is in
     record {
-      is_cell = cell_inside m rows x r (slots_in c.load-number.result) (omega arith) e.0;
+      is_cell = cell_inside m rows x r (slots_in c.load-number.result) (omega arith) e.literals;
       is_record_lem = record_inside m rows x r (omega arith);
-      operand = record { number = record { some = rw e.1.0 h.some; fits = rw e.1.0 h.narrow; all = rw e.1.0 e.1.1 }; width = e.1.0 };
+      operand = record { number = record { some = rw w h.some; fits = rw w h.narrow; all = rw w e.all_lit_width_bits }; width = w };
     }
 
 -- one place
@@ -37,11 +37,10 @@ false-first (suc i) h = absurd (omega arith)
 
 pub returns : goal.returns
 returns c =
-    let s = c in
-    let m = s.args.map.now in
-    let rows = s.args.rows in
-    let x = s.args.x in
-    let r = s.args.of in
+    let m = c.args.map.now in
+    let rows = c.args.rows in
+    let x = c.args.x in
+    let r = c.args.of in
     record {
       is_cell = cell_outside m rows x r (omega arith);
       is_record_lem = record_outside m rows x r (omega arith);

@@ -2,19 +2,15 @@
 use mathlib.Core.Path.{◌≡◌, sym, ap, ◌∙◌}
 use mathlib.Core.Bool.{Bool}
 use mathlib.Core.List.{List, [], ◌++◌, map, append-nil}
-use Prim.Native.Nat.{ℕ, ◌+◌, ◌-◌, ◌/◌, ◌^◌, ◌≤◌, ◌<◌}
+use Prim.Native.Nat.{◌+◌, ◌-◌, ◌/◌, ◌<◌}
 use borrow.Author.Rules.{rules}
 use native.Mathlib.Omega.{arith}
-use lib.IntN.{ℤ}
 use lib.ListN.{length, set, take, length-set}
 use Rattle.whole.specs.Bits.{odd}
 use Rattle.circuit.specs.Literals.{known, slot}
-use Rattle.circuit.specs.Numbers.{constant}
-use Rattle.frame.specs.Literals.{AllLit}
 use Rattle.frame.proofs.Literals.{answered, literals-set, take-set}
 use Rattle.numbers.specs.Signed.{signed}
 use Rattle.literals.proofs.Constants.{bits_left, constant_is, bits_step, bits_end, halved}
-use Rattle.literals.proofs.constant.Invariants.{Turns}
 use Rattle.literals.proofs.constant.Goals as goal
 
 pub loop-rest-init : goal.loop-rest-init
@@ -45,7 +41,7 @@ loop-rest-preserved c =
     let e : m - i - 1 ≡ m - (i + 1) = omega arith in
     let step = rw e at (bits_step negative (m - i) r h (omega arith)) in
     let rest = map slot (map known (bits_left negative (m - (i + 1)) (r / 2))) in
-    rw (answered c.lowest-b.ensures)
+    rw (answered (c.lowest-b.ensures.result_is, c.lowest-b.ensures.is_lit))
     (record {
       within = omega arith;
       small = q.1;
@@ -69,11 +65,11 @@ returns c =
     let z : t.loop-rest.rest ≡ 0 = omega arith in
     let o = rw (z, bits_end negative (m - i)) at v.left in
     let h : i < length l = omega arith in
-    rw (answered c.lowest-sign.ensures) (
-      sym (append-nil (take (i + 1) (set l i b))) ∙ take-set i b l [] h ∙ o,
-      record {
+    rw (answered (c.lowest-sign.ensures.result_is, c.lowest-sign.ensures.is_lit)) (record {
+      slots_in_is = sym (append-nil (take (i + 1) (set l i b))) ∙ take-set i b l [] h ∙ o;
+      is_number = record {
         some = omega arith;
         fits = omega arith;
         all = literals-set l i b h v.sound (rw c.lowest-sign.ensures.result_is at c.lowest-sign.ensures.is_lit);
-      },
-    )
+      };
+    })

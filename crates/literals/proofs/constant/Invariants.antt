@@ -1,19 +1,15 @@
 -- `literals::constant` meets its contract. Assumes nothing.
-use mathlib.Core.Path.{◌≡◌, sym, ap, ◌∙◌}
+use mathlib.Core.Path.{◌≡◌}
 use mathlib.Core.Bool.{Bool}
-use mathlib.Core.List.{List, [], ◌++◌, map, append-nil}
-use Prim.Native.Nat.{ℕ, ◌+◌, ◌-◌, ◌/◌, ◌^◌, ◌≤◌, ◌<◌}
-use borrow.Author.Rules.{rules}
-use native.Mathlib.Omega.{arith}
+use mathlib.Core.List.{List, ◌++◌, map}
+use Prim.Native.Nat.{ℕ, ◌+◌, ◌-◌, ◌^◌, ◌≤◌, ◌<◌}
 use lib.IntN.{ℤ}
-use lib.ListN.{length, set, take, length-set}
-use Rattle.whole.specs.Bits.{odd}
+use lib.ListN.{length, take}
 use Rattle.circuit.specs.Literals.{known, slot}
 use Rattle.circuit.specs.Numbers.{constant}
 use Rattle.frame.specs.Literals.{AllLit}
-use Rattle.frame.proofs.Literals.{answered, literals-set, take-set}
 use Rattle.numbers.specs.Signed.{signed}
-use Rattle.literals.proofs.Constants.{bits_left, constant_is, bits_step, bits_end, halved}
+use Rattle.literals.proofs.Constants.{bits_left}
 use Rattle.literals.proofs.constant.Given as goal
 
 -- i bits are written, and those of `rest` are left

@@ -1,17 +1,16 @@
 -- `literals::fill` meets its contract. Assumes nothing.
 use mathlib.Core.Path.{◌≡◌, refl, sym, ap, ◌∙◌}
 use mathlib.Core.List.{List, ◌++◌, append-nil}
-use Prim.Native.Nat.{ℕ, ◌+◌, ◌-◌, ◌≤◌}
+use Prim.Native.Nat.{◌+◌, ◌-◌}
 use borrow.Author.Rules.{rules}
 use native.Mathlib.Omega.{arith}
 use lib.IntN.{ℤ}
-use lib.ListN.{length, take, replicate, length-set}
+use lib.ListN.{take, replicate, length-set}
 use mir.Syntax.{w32}
 use mir.Val.{to_z, of_z}
 use mir.Facts.{to_z-of_z}
 use Rattle.frame.proofs.Literals.{take-set}
 use Rattle.literals.proofs.Widening.{copies, no_copies}
-use Rattle.literals.proofs.fill.Invariants.{Turns}
 use Rattle.literals.proofs.fill.Goals as goal
 
 pub loop-i-init : goal.loop-i-init
@@ -45,17 +44,3 @@ returns c =
     let e : i ≡ s.args.to = omega arith in
     let o = rw (no_copies s.args.to i (to_z w32 (of_z w32 s.args.v)) (omega arith), append-nil, to_z-of_z s.ranges.v) at t.loop-i.invariant.left in
     rw e at o
-
-pub fill_spec : {M : Type 1} → statement M
-fill_spec =
-    tie.close
-    (tie.spec
-    invariant-loop
-    decreases-loop
-    loop-holds
-    mul-all
-    array-set-from-all
-    add-i
-    loop-less
-    loop-again
-    returns)

@@ -1,16 +1,9 @@
 -- `literals::fill` meets its contract. Assumes nothing.
-use mathlib.Core.Path.{◌≡◌, refl, sym, ap, ◌∙◌}
-use mathlib.Core.List.{List, ◌++◌, append-nil}
-use Prim.Native.Nat.{ℕ, ◌+◌, ◌-◌, ◌≤◌}
-use borrow.Author.Rules.{rules}
-use native.Mathlib.Omega.{arith}
+use mathlib.Core.Path.{◌≡◌}
+use mathlib.Core.List.{List, ◌++◌}
+use Prim.Native.Nat.{ℕ, ◌-◌, ◌≤◌}
 use lib.IntN.{ℤ}
-use lib.ListN.{length, take, replicate, length-set}
-use mir.Syntax.{w32}
-use mir.Val.{to_z, of_z}
-use mir.Facts.{to_z-of_z}
-use Rattle.frame.proofs.Literals.{take-set}
-use Rattle.literals.proofs.Widening.{copies, no_copies}
+use lib.ListN.{length, take, replicate}
 use Rattle.literals.proofs.fill.Given as goal
 
 -- the places up to i are filled, and what is left to fill
@@ -21,7 +14,7 @@ pub record Turns (from to : ℕ) (v : ℤ) (bits all : List ℤ) (i : ℕ) : Typ
   pub left : take i all ++ replicate (to - i) v ≡ take from bits ++ replicate (to - from) v
 
 abbrev pub invariant-loop-i : goal.invariant-loop-i
-invariant-loop-i l = Turns l.from l.to (to_z w32 l.v) l.initial.all l.all l.i
+invariant-loop-i l = Turns l.from l.to l.v l.initial.all l.all l.i
 
 abbrev pub decreases-loop-i : goal.decreases-loop-i
 decreases-loop-i l = l.to - l.i

@@ -25,14 +25,14 @@ pub negate-b-requires : goal.negate-b-requires
 negate-b-requires c =
     let t = c in
     let s = t in
-    lit_held (get_or s.args.t1 t.loop-i.i (pos 0)) (s.requires.all_lit_width_bits t.loop-i.i c.loop-i-test.true)
+    lit_held (get_or s.args.bits t.loop-i.i (pos 0)) (s.requires.all_lit_width_bits t.loop-i.i c.loop-i-test.true)
 
 pub loop-i-preserved : goal.loop-i-preserved
 loop-i-preserved c =
     let u = c in
     let t = u in
     let s = t in
-    let l = s.args.t1 in
+    let l = s.args.bits in
     let all = t.loop-i.all in
     let i = t.loop-i.i in
     let w = s.args.width in
@@ -58,4 +58,4 @@ returns c =
     let i = t.loop-i.i in
     let w = s.args.width in
     let e : i ≡ w = omega arith in
-    let o = rw (between_none i w s.args.t1 c.loop-i-test.false, append-nil, e) at t.loop-i.invariant.left in record { literals_is = ap literals o ∙ literals_of (map neg (literals (take w s.args.t1))); all_lit_width = t.loop-i.invariant.sound }
+    let o = rw (between_none i w s.args.bits c.loop-i-test.false, append-nil, e) at t.loop-i.invariant.left in record { literals_is = ap literals o ∙ literals_of (map neg (literals (take w s.args.bits))); all_lit_width = t.loop-i.invariant.sound }

@@ -9,29 +9,22 @@ use Rattle.frame.specs.Literals.{literals_in}
 use Rattle.compare.specs.Comparing.{matching}
 use Rattle.operation.proofs.Widened.{equal_is}
 use Rattle.operation.proofs.equal.Goals as goal
-use Rattle.operation.proofs.equal.Goals.{After-widen-b, Start}
+use Rattle.operation.proofs.equal.Goals.{After-widen-b}
 
 -- a number's array has 48 places
-long : (s : Start) → (s.args.x.width ≤ length s.args.x.bits) × (s.args.y.width ≤ length s.args.y.bits)
-long s =
-    let lx : length s.args.x.bits ≡ 48 = search rules in
-    let ly : length s.args.y.bits ≡ 48 = search rules in
+long : (e : After-widen-b) → (e.args.x.width ≤ length e.args.x.bits) × (e.args.y.width ≤ length e.args.y.bits)
+long e =
+    let lx : length e.args.x.bits ≡ 48 = search rules in
+    let ly : length e.args.y.bits ≡ 48 = search rules in
     (omega arith, omega arith)
 
 -- the circuit, on the numbers brought to one width
 same : (e : After-widen-b) → equal (literals_in e.args.x) (literals_in e.args.y)
     ≡ matching e.widen-a.result e.widen-b.result e.larger-width.result
-same e =
-    let m = e in
-    let s = m in
-    equal_is s.args.x s.args.y (long s).0 (long s).1 m.larger-width.result e.widen-a.result e.widen-b.result e.widen-a.ensures.take_is e.widen-b.ensures.take_is m.larger-width.ensures
+same e = equal_is e.args.x e.args.y (long e).0 (long e).1 e.larger-width.result e.widen-a.result e.widen-b.result e.widen-a.ensures.take_is e.widen-b.ensures.take_is e.larger-width.ensures
 
-pub equal-requires : goal.equal-requires
-equal-requires c =
-    let e = c in
-    let s = e in record { width_most = omega arith; all_lit_width_x = e.widen-a.ensures.all_lit_width; all_lit_width_y = e.widen-b.ensures.all_lit_width; room = rw (same e) at s.requires.room }
+pub equal-requires-clause-room : goal.equal-requires-clause-room
+equal-requires-clause-room c = rw (same (goal.at.equal-requires-clause-room c).After-widen-b) at c.requires.room
 
 pub returns : goal.returns
-returns c =
-    let p = c in
-    rw (same p) p.equal.ensures
+returns c = rw (same (goal.at.returns c).After-widen-b) c.equal.ensures

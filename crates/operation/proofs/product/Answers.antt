@@ -9,32 +9,35 @@ use Rattle.frame.specs.Literals.{literals_in}
 use Rattle.product.specs.Multiplying.{multiplying}
 use Rattle.operation.proofs.Widened.{product_is, number_of}
 use Rattle.operation.proofs.product.Goals as goal
-use Rattle.operation.proofs.product.Goals.{After-widen-b, Start}
+use Rattle.operation.proofs.product.Goals.{After-widen-b}
 
 -- a number's array has 48 places
-long : (s : Start) → (s.args.x.width ≤ length s.args.x.bits) × (s.args.y.width ≤ length s.args.y.bits)
-long s =
-    let lx : length s.args.x.bits ≡ 48 = search rules in
-    let ly : length s.args.y.bits ≡ 48 = search rules in
+long : (e : After-widen-b) → (e.args.x.width ≤ length e.args.x.bits) × (e.args.y.width ≤ length e.args.y.bits)
+long e =
+    let lx : length e.args.x.bits ≡ 48 = search rules in
+    let ly : length e.args.y.bits ≡ 48 = search rules in
     (omega arith, omega arith)
+
+-- the width of the result
+within : (e : After-widen-b) → (1 ≤ e.args.x.width + e.args.y.width) × (e.args.x.width + e.args.y.width ≤ 48)
+within e = (omega arith, omega arith)
 
 -- the circuit, on the numbers brought to one width
 same : (e : After-widen-b) → product (literals_in e.args.x) (literals_in e.args.y)
     ≡ multiplying e.widen-a.result e.widen-b.result (e.args.x.width + e.args.y.width)
-same e =
-    let s = e in
-    product_is s.args.x s.args.y (long s).0 (long s).1 (s.args.x.width + s.args.y.width) e.widen-a.result e.widen-b.result e.widen-a.ensures.take_is e.widen-b.ensures.take_is refl
+same e = product_is e.args.x e.args.y (long e).0 (long e).1 (e.args.x.width + e.args.y.width) e.widen-a.result e.widen-b.result e.widen-a.ensures.take_is e.widen-b.ensures.take_is refl
 
-pub multiply-requires : goal.multiply-requires
-multiply-requires c =
-    let e = c in
-    let s = e in record { width_least = omega arith; width_most = omega arith; all_lit_width_x = e.widen-a.ensures.all_lit_width; all_lit_width_y = e.widen-b.ensures.all_lit_width; room = rw (same e) at s.requires.room }
+pub multiply-requires-clause-room : goal.multiply-requires-clause-room
+multiply-requires-clause-room c = rw (same (goal.at.multiply-requires-clause-room c).After-widen-b) at c.requires.room
 
 pub returns : goal.returns
 returns c =
-    let p = c in
-    let e = p in
-    let s = e in
-    let a = p.multiply.ensures in
-    let w : (1 ≤ s.args.x.width + s.args.y.width) × (s.args.x.width + s.args.y.width ≤ 48) = (omega arith, omega arith) in
-    rw (same e) (a.0, (rw a.1.1.0 a.1.0, (number_of p.multiply.result.number a.1.1.0 w.0 w.1 a.1.1.1, a.1.1.0)))
+    let e = (goal.at.returns c).After-widen-b in
+    let a = c.multiply.ensures in
+    let w = within e in
+    rw (same e) (record {
+      wrote = a.wrote;
+      slots_in_is = rw a.width_is a.bits;
+      is_number_number = number_of c.multiply.result.number a.width_is w.0 w.1 a.all_lit_width_bits;
+      width = a.width_is;
+    })
