@@ -19,7 +19,7 @@ use Rattle.whole.proofs.Ranges.{sum_fits, difference_fits}
 
 -- a number that was put into a word is read back
 pub kept : (z : ℤ) → mag z < 9223372036854775808 → to_z w64 (of_z w64 z) ≡ z
-kept z h = to_z-of_z (record { sfits = h })
+kept z h = to_z-of_z {w = w64} {z = z} (record { sfits = h })
 
 pub fits_word : {k : ℕ} {z : ℤ} → k ≤ 64 → Fits k z → SFits w64 z
 fits_word {k} {z} h f = record { sfits = lt_of_lt_of_le (fits_iff.0 f) (pow_mono {i = k - 1} {j = 63} (omega arith)) }

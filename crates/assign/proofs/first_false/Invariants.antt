@@ -1,16 +1,13 @@
 -- `assign::first_false` meets its contract. Assumes nothing.
-use mathlib.Core.Path.{◌≡◌, sym, ◌∙◌}
+use mathlib.Core.Path.{◌≡◌}
 use mathlib.Core.List.{List}
 use Prim.Native.Nat.{ℕ, ◌+◌, ◌-◌, ◌≤◌}
-use native.Mathlib.Omega.{arith}
-use borrow.Author.Rules.{rules}
-use lib.IntN.{ℤ, pos}
-use lib.ListN.{length, get_or, drop, drop_of_length-le}
-use Rattle.frame.proofs.Literals.{held}
+use lib.IntN.{ℤ}
+use lib.ListN.{length, drop}
 use Rattle.sheet.specs.Calls.{assigned}
 use mathlib.Core.Bool.{Bool}
 use Rattle.assign.specs.Clauses.{clauses_in, truths, first_false}
-use Rattle.assign.proofs.Scanning.{first_from, from_one, slot_ends, slot_on}
+use Rattle.assign.proofs.Scanning.{first_from}
 use Rattle.assign.proofs.first_false.Given as goal
 
 -- i slots are read: what is left, from where the scan stands, answers for the whole

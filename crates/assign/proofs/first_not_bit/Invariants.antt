@@ -1,13 +1,10 @@
 -- `assign::first_not_bit` meets its contract. Assumes nothing.
-use mathlib.Core.Path.{◌≡◌, refl, sym, ◌∙◌}
+use mathlib.Core.Path.{◌≡◌}
 use mathlib.Core.List.{List}
 use Prim.Native.Nat.{ℕ, ◌-◌, ◌≤◌}
-use native.Mathlib.Omega.{arith}
-use borrow.Author.Rules.{rules}
-use lib.ListN.{length, drop, drop_of_length-le}
+use lib.ListN.{length, drop}
 use Rattle.sheet.specs.Calls.{false_at}
 use Rattle.assign.specs.Model.{are_bits}
-use Rattle.assign.proofs.Bytes.{found_at, passed_by}
 use Rattle.assign.proofs.first_not_bit.Given as goal
 
 -- i bytes are 0 or 1: what is left answers for the whole

@@ -5,24 +5,6 @@ use Rattle.arithmetic.proofs.Words.{kept}
 use Rattle.row_value.specs.Operands.{row_over}
 use Rattle.row_value.proofs.numerator_of_row.Goals as goal
 
-pub sum-requires : goal.sum-requires
-sum-requires c = rw c.in-Sum.is at c.requires
-
-pub difference-requires : goal.difference-requires
-difference-requires c = rw c.in-Difference.is at c.requires
-
-pub product-requires : goal.product-requires
-product-requires c = rw c.in-Product.is at c.requires
-
-pub choice-requires : goal.choice-requires
-choice-requires c = rw c.in-Choice.is at c.requires
-
-pub greater-requires : goal.greater-requires
-greater-requires c = rw c.in-Greater.is at c.requires
-
-pub equal-requires : goal.equal-requires
-equal-requires c = rw c.in-Equal.is at c.requires
-
 pub returns-in-BooleanConstant : goal.returns-in-BooleanConstant
 unfolding row_over
 returns-in-BooleanConstant c = rw (c.in-BooleanConstant.is, kept c.flag.result c.flag.type_inv) c.flag.ensures
