@@ -1,6 +1,5 @@
 -- The laws of bits put into a model. Assumes nothing.
 pub mod Putting
-pub mod Halving
 pub mod Places
 pub mod Turns
 pub mod Totals

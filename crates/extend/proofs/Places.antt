@@ -12,14 +12,14 @@ use Rattle.extend.specs.Bytes.{Room, Put}
 use Rattle.extend.proofs.Putting.{put_then}
 
 -- a truth as a byte
-bool_byte : (b : Bool) → bool_byte b ≡ bit b
-bool_byte true = refl
-bool_byte false = refl
+byte_is_bit : (b : Bool) → bool_byte b ≡ bit b
+byte_is_bit true = refl
+byte_is_bit false = refl
 
 pub put_one : (at : ℕ) (v : Bool) (m : List ℕ) → at < length m → Put at (v ∷ []) m (set m at (bool_byte v)) (at + 1)
 put_one at v m h =
     record {
-      model = rw (bool_byte v) (sym (over_none (at + 1) (set m at (bit v))) ∙ over-set at (bit v) [] m h);
+      model = rw (byte_is_bit v) (sym (over_none (at + 1) (set m at (bit v))) ∙ over-set at (bit v) [] m h);
       place = omega arith;
     }
 

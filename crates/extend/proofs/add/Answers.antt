@@ -2,7 +2,6 @@
 use mathlib.Core.Path.{◌≡◌, ap}
 use Prim.Native.Nat.{◌-◌}
 use native.Mathlib.Omega.{arith}
-use borrow.Author.Rules.{rules}
 use mir.Syntax.{w64}
 use mir.Val.{to_z}
 use mir.Facts.{to_z-of_z}
@@ -10,72 +9,21 @@ use Rattle.whole.specs.Bits.{odd, half}
 use Rattle.circuit.specs.Gates.{maj_of}
 use Rattle.arithmetic.proofs.Words.{kept}
 use Rattle.trace.specs.Traces.{adding}
-use Rattle.extend.specs.Bytes.{Room}
-use Rattle.extend.proofs.Putting.{Left, left_all, left_room, left_step, left_none}
+use Rattle.extend.proofs.Putting.{left_step, left_none}
 use Rattle.extend.proofs.Turns.{adding_turn}
 use Rattle.extend.proofs.add.Goals as goal
-use Rattle.extend.proofs.add.Goals.{In-loop-left}
-
-pub loop-left-init : goal.loop-left-init
-loop-left-init c = let s = c in rw (to_z-of_z s.ranges.x, to_z-of_z s.ranges.y) (left_all s.requires)
-
--- there is room for a turn
-module _ (t : In-loop-left) where
-  room : Room t.loop-left.place (adding t.loop-left.c 1 (to_z w64 t.loop-left.a) (to_z w64 t.loop-left.b)) t.loop-left.model-1
-  room =
-      let l = t.loop-left in
-      let x = to_z w64 l.a in
-      let y = to_z w64 l.b in
-      left_room l.invariant (adding l.c 1 x y) (adding (maj_of (odd x) (odd y) l.c) (l.left - 1) (half x) (half y)) (adding_turn l.c l.left x y t.loop-left-test.true)
-
-pub add_bit-c-requires : goal.add_bit-c-requires
-add_bit-c-requires c = room c
-
-pub overflow_add-place : goal.overflow_add-place
-overflow_add-place c = let r = room c in search rules
-
-pub upper-a-requires : goal.upper-a-requires
-upper-a-requires c = tt
-
-pub upper-b-requires : goal.upper-b-requires
-upper-b-requires c = tt
 
 pub loop-left-preserved : goal.loop-left-preserved
 loop-left-preserved c =
-    let u = c in
-    let p = u in
-    let t = p in
-    let l = t.loop-left in
-    let x = to_z w64 l.a in
-    let y = to_z w64 l.b in
+    let l = c.loop-left in
+    let x = to_z w64 l.a-bits in
+    let y = to_z w64 l.b-bits in
     let rest = adding (maj_of (odd x) (odd y) l.c) (l.left - 1) (half x) (half y) in
-    rw (kept u.upper-a.result u.upper-a.type_inv, kept c.upper-b.result c.upper-b.type_inv, u.upper-a.ensures, c.upper-b.ensures, p.add_bit-c.ensures.carry)
-    (left_step l.invariant (adding l.c 1 x y) rest (adding_turn l.c l.left x y t.loop-left-test.true) p.add_bit-c.ensures.bits)
-
-pub shape_of-model : goal.shape_of-model
-shape_of-model c = c.loop-left.invariant.long
+    rw (kept c.upper-a.result c.upper-a.type_inv, kept c.upper-b.result c.upper-b.type_inv, c.upper-a.ensures, c.upper-b.ensures, c.add_bit-c.ensures.carry)
+    (left_step l.invariant (adding l.c 1 x y) rest (adding_turn l.c l.left x y c.loop-left-test.true) c.add_bit-c.ensures.bits)
 
 pub returns : goal.returns
 returns c =
-    let t = c in
-    let s = t in
-    let l = t.loop-left in
+    let l = c.loop-left in
     let none : l.left ≡ 0 = omega (arith, c.loop-left-test.false) in
-    rw (to_z-of_z s.ranges.x, to_z-of_z s.ranges.y) at (left_none l.invariant (ap (λ n. adding l.c n (to_z w64 l.a) (to_z w64 l.b)) none))
-
-pub add_spec : {M : Type 1} → statement M
-add_spec =
-    tie.close
-    (tie.spec
-    invariant-loop
-    decreases-loop
-    loop-holds
-    add-bit-requires
-    add-place
-    upper-requires
-    upper-requires-2
-    sub-left
-    loop-less
-    loop-again
-    same_length
-    returns)
+    rw (to_z-of_z c.ranges.x, to_z-of_z c.ranges.y) at (left_none l.invariant (ap (λ n. adding l.c n (to_z w64 l.a-bits) (to_z w64 l.b-bits)) none))
