@@ -1,32 +1,16 @@
 -- What the definitions of the lines say at each turn of a loop. Assumes nothing.
 use mathlib.Core.Path.{◌≡◌, refl, sym, ap, ◌∙◌}
-use mathlib.Core.Bool.{Bool, true, false, ◌&&◌, false≢true, and_comm, and_assoc, and-false, and-eq-true_iff}
+use mathlib.Core.Bool.{Bool, true, false, ◌&&◌, false≢true, and_assoc, and-eq-true_iff}
 use mathlib.Core.List.{List, [], ◌∷◌, ◌++◌}
 use Prim.Native.Nat.{ℕ, zero, suc, ◌+◌, ◌*◌, ◌-◌, ◌%◌, ◌≤◌, ◌<◌}
 use native.Mathlib.Numerals.{add-one}
 use native.Mathlib.Omega.{arith}
-use borrow.Author.Tests.{ltb-true, lt-ltb}
 use lib.Dec.{ltb, eqb}
 use lib.ListN.{length, get_or, drop, drop_of_length-le}
 use lib.Seq.{drop-cons, drop-drop, get_or-drop}
 use Rattle.whole.specs.Tests.{if◌then◌otherwise◌}
 use Rattle.sheet.specs.Acceptance.{refused}
 use Rattle.sheet.specs.Texts.{nibble, begins_line, bytes_in, table_in, lines, lines_from}
-
--- ---- two nibbles are below 16 if the larger is
-
-larger_below : (a b : ℕ) (t : Bool) → ltb b 16 ≡ t → a ≤ b → t ≡ (ltb a 16 && t)
-larger_below a b true e h =
-    let k = ltb-true b 16 e in
-    let l : a < 16 = omega arith in
-    rw (lt-ltb a 16 l)
-larger_below a b false e h = sym (and-false (ltb a 16))
-
-pub below_larger : (a b : ℕ) → a ≤ b → ltb b 16 ≡ (ltb a 16 && ltb b 16)
-below_larger a b h = larger_below a b (ltb b 16) refl h
-
-pub below_first : (a b : ℕ) → b ≤ a → ltb a 16 ≡ (ltb a 16 && ltb b 16)
-below_first a b h = below_larger b a h ∙ and_comm (ltb b 16) (ltb a 16)
 
 -- ---- a line, digit by digit
 

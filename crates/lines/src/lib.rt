@@ -5,7 +5,8 @@ ghost use Rattle.std.specs.Prelude.{◌≡◌, true, false, ◌&&◌, ◌≤◌,
 ghost use Rattle.whole.specs.Tests.{if◌then◌otherwise◌};
 ghost use Rattle.frame.specs.Frame.{front};
 ghost use Rattle.sheet.specs.Calls.{left, found};
-ghost use Rattle.sheet.specs.Texts.{nibble as Texts·nibble, begins_line, bytes_in, table_in, lines_from, read_lines};
+ghost use Rattle.sheet.specs.Texts as Texts;
+ghost use Rattle.sheet.specs.Texts.{begins_line, bytes_in, table_in, lines_from, read_lines};
 ghost use Rattle.lines.specs.Found.{Within};
 
 use sheet::{LinesFound, LinesRead};
@@ -26,7 +27,7 @@ fn decimal(b: u8) -> u8
 
 // What a hexadecimal digit stands for; 16 for any other byte.
 fn nibble(b: u8) -> u8
-    ensures result_is { result ≡ Texts·nibble b }
+    ensures result_is { result ≡ Texts.nibble b }
     ensures result_most { result ≤ 16 }
 {
     let n = decimal(b);
@@ -111,7 +112,7 @@ fn judge(text: &[u8], blank: bool) -> LinesRead
 
 // The byte of two digits.
 fn pair(high: u8, low: u8) -> u8
-    ensures { result ≡ Texts·nibble high % 16 * 16 + Texts·nibble low % 16 }
+    ensures { result ≡ Texts.nibble high % 16 * 16 + Texts.nibble low % 16 }
 {
     nibble(high) % 16 * 16 + nibble(low) % 16
 }

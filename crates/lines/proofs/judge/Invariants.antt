@@ -1,15 +1,10 @@
 -- `lines::judge` meets its contract. Assumes nothing.
-use mathlib.Core.Path.{◌≡◌, refl, sym, ◌∙◌}
-use mathlib.Core.Bool.{Bool, true, false}
+use mathlib.Core.Path.{◌≡◌}
+use mathlib.Core.Bool.{Bool}
 use mathlib.Core.List.{List}
-use Prim.Native.Nat.{ℕ, ◌*◌, ◌-◌, ◌≤◌, ◌<◌}
-use native.Mathlib.Omega.{arith}
-use borrow.Author.Rules.{rules}
-use borrow.Author.Tests.{not-true, not-false}
-use lib.ListN.{length, drop, length-drop}
-use Rattle.sheet.specs.Texts.{begins_line, lines_from}
-use Rattle.frame.proofs.Frames.{rest_all}
-use Rattle.lines.proofs.Laws.{lines_end, lines_ended, lines_full, lines_more, begins_long}
+use Prim.Native.Nat.{ℕ, ◌*◌, ◌-◌, ◌≤◌}
+use lib.ListN.{length, drop}
+use Rattle.sheet.specs.Texts.{lines_from}
 use Rattle.lines.proofs.judge.Given as goal
 
 -- the lines that are left decide

@@ -1,14 +1,10 @@
 -- `lines::put_row` meets its contract. Assumes nothing.
-use mathlib.Core.Path.{◌≡◌, refl}
+use mathlib.Core.Path.{◌≡◌}
 use mathlib.Core.List.{List}
-use Prim.Native.Nat.{ℕ, ◌+◌, ◌*◌, ◌-◌, ◌≤◌, ◌<◌}
-use native.Mathlib.Omega.{arith}
-use lib.ListN.{length, drop, length-set}
+use Prim.Native.Nat.{ℕ, ◌*◌, ◌-◌, ◌≤◌}
+use lib.ListN.{length, drop}
 use Rattle.frame.specs.Frame.{front, over}
-use Rattle.frame.proofs.Frames.{over_zero, over_none, over-set}
 use Rattle.sheet.specs.Texts.{bytes_in}
-use Rattle.lines.proofs.Laws.{byte_at, bytes_more, bytes_end}
-use borrow.Author.Rules.{rules}
 use Rattle.lines.proofs.put_row.Given as goal
 
 -- the bytes that are left, over what is written

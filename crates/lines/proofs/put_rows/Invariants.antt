@@ -1,15 +1,10 @@
 -- `lines::put_rows` meets its contract. Assumes nothing.
-use mathlib.Core.Path.{◌≡◌, refl}
+use mathlib.Core.Path.{◌≡◌}
 use mathlib.Core.List.{List}
-use Prim.Native.Nat.{ℕ, ◌+◌, ◌*◌, ◌-◌, ◌≤◌, ◌<◌}
-use native.Mathlib.Nat.{sub-zero}
-use native.Mathlib.Omega.{arith}
+use Prim.Native.Nat.{ℕ, ◌*◌, ◌-◌, ◌≤◌}
 use lib.ListN.{length, drop}
 use Rattle.frame.specs.Frame.{front, over}
-use Rattle.frame.proofs.Frames.{over_zero, over_none, over_over, length_over, rest_all, lent}
-use Rattle.sheet.specs.Texts.{bytes_in, table_in}
-use Rattle.lines.proofs.Laws.{table_more, table_end, eight_bytes}
-use borrow.Author.Rules.{rules}
+use Rattle.sheet.specs.Texts.{table_in}
 use Rattle.lines.proofs.put_rows.Given as goal
 
 -- the rows that are left, over what is written

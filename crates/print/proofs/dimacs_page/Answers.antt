@@ -1,10 +1,6 @@
 -- `print::dimacs_page` meets its contract. Assumes nothing.
-use Prim.Native.Nat.{◌+◌, ◌-◌}
 use native.Mathlib.Omega.{arith}
-use borrow.Author.Rules.{rules}
-use lib.ListN.{length}
-use Rattle.print.specs.Pieces.{dimacs_pieces}
-use Rattle.print.proofs.Pages.{Left, left_all, left_step, left_full, left_end}
+use Rattle.print.proofs.Pages.{left_all, left_step, left_full, left_end}
 use Rattle.print.proofs.Pieces.{dimacs_many, dimacs_short}
 use Rattle.print.proofs.dimacs_page.Goals as goal
 
@@ -13,23 +9,19 @@ loop-next-init c = left_all _ _ _
 
 pub returns-then-out-size-lt64 : goal.returns-then-out-size-lt64
 returns-then-out-size-lt64 c =
-    let t = c in
-    let s = t.args in
+    let s = c.args in
     let many = dimacs_many s.variables s.clauses s.slots.now in
-    let done = left_full t.loop-next.invariant (omega (arith, many)) c.if-out-size-lt64.true in record { answer = done.answer; out = done.text }
+    let done = left_full c.loop-next.invariant (omega (arith, many)) c.if-out-size-lt64.true in record { answer = done.answer; out = done.text }
 
 pub loop-next-preserved : goal.loop-next-preserved
 loop-next-preserved c =
-    let d = c in
-    let t = d in
-    let s = t.args in
+    let s = c.args in
     let many = dimacs_many s.variables s.clauses s.slots.now in
-    let short = dimacs_short s.variables s.clauses s.slots.now t.loop-next.next (omega arith) in
-    left_step t.loop-next.invariant (omega (arith, many)) (omega arith) short d.put_dimacs_piece-size.ensures
+    let short = dimacs_short s.variables s.clauses s.slots.now c.loop-next.next (omega arith) in
+    left_step c.loop-next.invariant (omega (arith, many)) (omega arith) short c.put_dimacs_piece-size.ensures
 
 pub returns : goal.returns
 returns c =
-    let t = c in
-    let s = t.args in
+    let s = c.args in
     let many = dimacs_many s.variables s.clauses s.slots.now in
-    let done = left_end t.loop-next.invariant (omega (arith, many)) in record { answer = done.answer; out = done.text }
+    let done = left_end c.loop-next.invariant (omega (arith, many)) in record { answer = done.answer; out = done.text }

@@ -1,11 +1,8 @@
 -- `print::dimacs_page` meets its contract. Assumes nothing.
 use Prim.Native.Nat.{◌+◌, ◌-◌}
-use native.Mathlib.Omega.{arith}
-use borrow.Author.Rules.{rules}
 use lib.ListN.{length}
 use Rattle.print.specs.Pieces.{dimacs_pieces}
-use Rattle.print.proofs.Pages.{Left, left_all, left_step, left_full, left_end}
-use Rattle.print.proofs.Pieces.{dimacs_many, dimacs_short}
+use Rattle.print.proofs.Pages.{Left}
 use Rattle.print.proofs.dimacs_page.Given as goal
 
 abbrev pub invariant-loop-next : goal.invariant-loop-next

@@ -1,16 +1,12 @@
 -- `print::put_text` meets its contract. Assumes nothing.
 use mathlib.Core.Path.{◌≡◌, refl}
-use mathlib.Core.List.{List}
-use Prim.Native.Nat.{ℕ, ◌+◌, ◌-◌, ◌≤◌, ◌<◌}
+use Prim.Native.Nat.{◌+◌, ◌<◌}
 use native.Mathlib.Nat.{add-zero}
 use native.Mathlib.Numerals.{add-one}
 use native.Mathlib.Omega.{arith}
-use borrow.Author.Rules.{rules}
 use lib.ListN.{length, get_or, drop, length-set}
 use lib.Seq.{drop-cons, drop-length}
-use Rattle.frame.specs.Frame.{over}
 use Rattle.frame.proofs.Frames.{over_none, over-set}
-use Rattle.print.proofs.put_text.Invariants.{Left}
 use Rattle.print.proofs.put_text.Goals as goal
 
 pub loop-i-init : goal.loop-i-init
@@ -18,22 +14,20 @@ loop-i-init c = record { within = omega arith; long = refl; left = rw add-zero }
 
 pub loop-i-preserved : goal.loop-i-preserved
 loop-i-preserved c =
-    let t = c in
-    let s = t.args in
+    let s = c.args in
     let text = s.text.now in
-    let i = t.loop-i.i in
+    let i = c.loop-i.i in
     let h : i < length text = omega arith in
-    let k : s.at + i < length t.loop-i.out = omega arith in
+    let k : s.at + i < length c.loop-i.out = omega arith in
     let e : s.at + (i + 1) ≡ s.at + i + 1 = omega arith in
     record {
       within = omega arith;
-      long = simp length-set t.loop-i.invariant.long;
-      left = rw (e, over-set (s.at + i) (get_or text i 0) (drop (i + 1) text) t.loop-i.out k, add-one, ← drop-cons text i 0 h) t.loop-i.invariant.left;
+      long = simp length-set c.loop-i.invariant.long;
+      left = rw (e, over-set (s.at + i) (get_or text i 0) (drop (i + 1) text) c.loop-i.out k, add-one, ← drop-cons text i 0 h) c.loop-i.invariant.left;
     }
 
 pub returns : goal.returns
 returns c =
-    let t = c in
-    let text = t.args.text.now in
-    let e : t.loop-i.i ≡ length text = omega arith in
-    record { place = rw e; bytes = rw (e, drop-length, over_none) at t.loop-i.invariant.left }
+    let text = c.args.text.now in
+    let e : c.loop-i.i ≡ length text = omega arith in
+    record { place = rw e; bytes = rw (e, drop-length, over_none) at c.loop-i.invariant.left }

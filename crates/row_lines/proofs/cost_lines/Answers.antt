@@ -3,12 +3,12 @@ use mathlib.Core.Path.{◌≡◌}
 use Prim.Native.Nat.{◌-◌}
 use native.Mathlib.Omega.{arith}
 use borrow.Author.Rules.{rules}
-use lib.ListN.{length, get_or, take}
+use lib.ListN.{length, get_or}
 use lib.Seq.{get_or-take, length-take-le}
 use Rattle.sheet.specs.Texts.{cost_line}
 use Rattle.print.specs.Pieces.{pair_line}
 use Rattle.table.proofs.Earlier.{zeros}
-use Rattle.row_lines.proofs.Lines.{Going, going_none, going_more, going_end}
+use Rattle.row_lines.proofs.Lines.{going_none, going_more, going_end}
 use Rattle.row_lines.proofs.Numbers.{cost_short}
 use Rattle.row_lines.proofs.cost_lines.Goals as goal
 
@@ -17,27 +17,18 @@ loop-r-init c = going_none cost_line _ _
 
 pub put_pair_line-at-requires : goal.put_pair_line-at-requires
 put_pair_line-at-requires c =
-    let g = c in
-    omega (arith, g.loop-r.invariant.short, g.loop-r.invariant.long, g.requires)
+    omega (arith, c.loop-r.invariant.short, c.loop-r.invariant.long, c.requires)
 
 pub loop-r-preserved : goal.loop-r-preserved
 unfolding pair_line
 loop-r-preserved c =
-    let p = c in
-    let t = p in
-    let s = t in
-    let rows = s.args.rows in
-    let r = t.loop-r.r in
-    let row = get_or s.args.t1 r zeros in
-    let all : length s.args.t1 ≡ 256 = search rules in
-    let many = length-take-le rows s.args.t1 (omega arith) in
-    going_more cost_line t.loop-r.invariant zeros {x = row} (get_or-take rows s.args.t1 r zeros (omega arith)) (omega (arith, many)) (omega (arith, many, s.requires)) (omega (arith, cost_short r row)) p.put_pair_line-at.ensures
-
-pub shape_of-out : goal.shape_of-out
-shape_of-out c = let h = c.loop-r.invariant.long in search rules
+    let rows = c.args.rows in
+    let r = c.loop-r.r in
+    let row = get_or c.args.records r zeros in
+    let all : length c.args.records ≡ 256 = search rules in
+    let many = length-take-le rows c.args.records (omega arith) in
+    going_more cost_line c.loop-r.invariant zeros {x = row} (get_or-take rows c.args.records r zeros (omega arith)) (omega (arith, many)) (omega (arith, many, c.requires)) (omega (arith, cost_short r row)) c.put_pair_line-at.ensures
 
 pub returns : goal.returns
 returns c =
-    let t = c in
-    let s = t in
-    let all : length s.args.t1 ≡ 256 = search rules in let told = going_end cost_line t.loop-r.invariant (omega (arith, length-take-le s.args.rows s.args.t1 (omega arith))) in record { answer = told.0; out = told.1 }
+    let all : length c.args.records ≡ 256 = search rules in let told = going_end cost_line c.loop-r.invariant (omega (arith, length-take-le c.args.rows c.args.records (omega arith))) in record { answer = told.0; out = told.1 }

@@ -1,14 +1,11 @@
 -- `setting_lines::settings_page` meets its contract. Assumes nothing.
-use mathlib.Core.Path.{◌≡◌, refl, sym}
+use mathlib.Core.Path.{◌≡◌}
 use mathlib.Core.List.{List}
-use Prim.Native.Nat.{ℕ, ◌+◌, ◌-◌, ◌/◌, ◌≤◌, ◌<◌}
-use native.Mathlib.Omega.{arith}
-use borrow.Author.Rules.{rules}
+use Prim.Native.Nat.{ℕ, ◌-◌, ◌/◌, ◌≤◌}
 use lib.ListN.{length}
 use lib.IntN.{ℤ}
 use Rattle.setting_lines.specs.Settings.{table_pieces, unknowns_in}
-use Rattle.print.proofs.Pages.{Left, left_all, left_step, left_full, left_end}
-use Rattle.setting_lines.proofs.Rows.{pieces_many, piece_fits, unknowns_more, unknowns_few}
+use Rattle.print.proofs.Pages.{Left}
 use Rattle.setting_lines.proofs.settings_page.Given as goal
 
 -- what is left of the page, and the unknowns that are passed

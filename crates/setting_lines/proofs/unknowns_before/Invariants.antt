@@ -1,11 +1,8 @@
 -- `setting_lines::unknowns_before` meets its contract. Assumes nothing.
-use mathlib.Core.Path.{◌≡◌, sym, ◌∙◌}
-use Prim.Native.Nat.{ℕ, ◌+◌, ◌-◌, ◌≤◌}
+use mathlib.Core.Path.{◌≡◌}
+use Prim.Native.Nat.{ℕ, ◌-◌, ◌≤◌}
 use mathlib.Core.List.{List}
-use native.Mathlib.Omega.{arith}
-use borrow.Author.Rules.{rules}
 use Rattle.setting_lines.specs.Settings.{unknowns_in}
-use Rattle.setting_lines.proofs.Rows.{unknowns_none, unknowns_more, unknowns_few}
 use Rattle.setting_lines.proofs.unknowns_before.Given as goal
 
 -- the rows that are passed are counted
