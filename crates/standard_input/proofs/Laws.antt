@@ -13,13 +13,13 @@ use lib.Signed.{lt_z}
 use mir.Syntax.{w32, w64}
 use mir.Val.{SFits, to_z, of_z}
 use mir.Facts.{to_z-of_z}
-use Rattle.libc.specs.Io.{Moved}
-use Rattle.whole.specs.Tests.{if◌then◌otherwise◌, eq_z}
+use Rattle.whole.specs.Tests.{if◌then◌else◌, eq_z}
 use Rattle.whole.proofs.Tests.{eq_z_iff}
-use Rattle.frame.proofs.Frames.{rest_all}
+use Rattle.std.proofs.Common.{Result, Ok, Err, IfOk, IfErr}
+use Rattle.std.specs.Io.{ReadsAtMost}
 use Rattle.standard_input.specs.declared.Progress.{Progress}
 use Rattle.standard_input.specs.declared.Progress.TheVariants.{Going, Whole, Failed}
-use Rattle.standard_input.specs.Reads.{after_read, Read, after, begun, Reached, OneMore, Over, bytes, IsWhole, FailedIsNoInput, InterruptedIsTriedAgain}
+use Rattle.standard_input.specs.Reads.{Moved, after_read, Read, after, begun, Reached, OneMore, Over, bytes, IsWhole, FailedIsNoInput, InterruptedIsTriedAgain}
 
 -- errno is 4 exactly if its bits are
 pub is_four : (x : ℤ) → SFits w32 x → of_z w32 x ≡ 4 → eq_z x (pos 4) ≡ true
@@ -46,9 +46,11 @@ pub of_test : {A : Type 0} (P : A → Type 0) (b : Bool) {x y : A} → (b ≡ tr
 of_test P true f g = f refl
 of_test P false f g = g refl
 
--- a read is handed what is behind the bytes that are there
-pub moved_behind : (at : ℕ) (l : List ℕ) (got : ℤ) → Moved (length (take (length l - at) (drop at l))) got → Moved (length l - at) got
-moved_behind at l got m = subst (λ n. Moved n got) (ap length (rest_all at l) ∙ length-drop at l) m
+-- what a read answered says that it moved no more than it was handed
+pub moved_by : {E : Type 0} (n : ℕ) (answer : Result ℕ E) (l : List ℕ) (got : ℤ) → length l ≡ n → ReadsAtMost answer l
+    → IfOk answer (λ k. got ≡ pos k) → IfErr answer (λ e. got ≡ negsuc 0) → Moved n got
+moved_by n (Ok k) l got long fits ok failed = rw ok (omega (arith, long, fits.0))
+moved_by n (Err e) l got long fits ok failed = rw failed refl
 
 -- what is left to read and to put up with falls, and no more is there than was lent
 abbrev pub Nearer : (at patience size : ℕ) → Progress → Type 0

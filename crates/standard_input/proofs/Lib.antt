@@ -1,2 +1,3 @@
 -- Laws of reads. Assumes nothing.
+pub mod Held
 pub mod Laws

@@ -1,10 +1,16 @@
 -- What reads come to, one after the other, by what each of them answered. Assumes nothing.
-use Rattle.std.specs.Prelude.{◌≡◌, Bool, true, false, List, [], ◌∷◌, ◌++◌, ℕ, ◌+◌, ◌-◌, ◌≤◌, eqb, length, ℤ, pos, nat_abs}
+use Rattle.std.specs.Prelude.{◌≡◌, Bool, true, false, List, [], ◌∷◌, ◌++◌, ℕ, ◌+◌, ◌-◌, ◌<◌, ◌≤◌, ⊤, eqb, length, take, ℤ, pos, negsuc, nat_abs}
 use Rattle.std.specs.Int.Signed.{lt_z}
-use Rattle.libc.specs.Io.{Moved}
-use Rattle.whole.specs.Tests.{if◌then◌otherwise◌, eq_z}
+use Rattle.core.specs.declared.option.Option.{Option}
+use Rattle.std.specs.Io.KnownBytes.{Consumes, IsAtEnd}
+use Rattle.whole.specs.Tests.{if◌then◌else◌, eq_z}
 use Rattle.standard_input.specs.declared.Progress.{Progress}
 use Rattle.standard_input.specs.declared.Progress.TheVariants.{Going, Whole, Failed}
+
+-- what a read that is handed n bytes may answer: -1, or how many bytes it moved, at most n
+abbrev pub Moved : ℕ → ℤ → Type 0
+Moved n (pos k) = k ≤ n
+Moved n (negsuc k) = k ≡ 0
 
 -- `at` bytes of `size` were there before; a negative answer is a failed read, and error 4 (EINTR) an interrupted one; 0 is the end
 unfoldable pub after_read : (at patience size : ℕ) (got error : ℤ) → Progress
@@ -46,6 +52,12 @@ abbrev pub Over : (size : ℕ) → Progress → Type 0
 Over size (Going at patience) = ⊥
 Over size (Whole n) = n ≤ size
 Over size Failed = Unit {0}
+
+-- where a reader's bytes are known, those that are there are the first of them, and `left` is behind; and a whole input that leaves room has none behind
+abbrev pub Holds : Progress → (known left : Option (List ℕ)) (buf : List ℕ) → Type 0
+Holds (Going at patience) known left buf = Consumes known left (take at buf)
+Holds (Whole n) known left buf = Consumes known left (take n buf) × (n < length buf → IsAtEnd left)
+Holds Failed known left buf = ⊤
 
 -- the bytes that are there; none counts before all are
 abbrev pub bytes : Progress → ℕ

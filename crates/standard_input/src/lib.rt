@@ -2,10 +2,16 @@
 // other there is no input at all, so that nothing is ever made of a part of it.
 #![tactic(auto)]
 
-ghost use Rattle.std.specs.Prelude.{◌≡◌, ◌-◌, ◌≤◌, length, take};
-ghost use Rattle.libc.specs.Io.{Moved};
+ghost use Rattle.std.specs.Prelude.{◌≡◌, ℕ, List, ◌-◌, ◌≤◌, ◌↔◌, length, take, pos, negsuc, IfOk, IfErr};
+ghost use Rattle.core.specs.declared.option.Option.{Option};
+ghost use Rattle.std.specs.Io.{ReadsAtMost};
+ghost use Rattle.std.specs.Io.KnownBytes.{Consumes};
+ghost use Rattle.std.specs.IoError.{error_kind};
 ghost use Rattle.io.specs.Counts.{IsPrefixLen};
-ghost use Rattle.standard_input.specs.Reads.{after_read, OneMore, Reached, Over, bytes};
+ghost use Rattle.standard_input.specs.Reads.{Moved, after_read, OneMore, Reached, Over, Holds, bytes};
+
+use std::io;
+use std::io::{ErrorKind, Read};
 
 // How far reading has come: so many bytes are there, and so many more interrupted reads are put up with; all is there; or a read failed.
 #[derive(Clone, Copy)]
@@ -40,27 +46,60 @@ fn after_read(at: usize, patience: u32, size: usize, got: isize, error: i32) -> 
     Progress::Going(there, patience)
 }
 
+// What a read answered, as the C library has it: how many bytes came, or -1 for a failed one. `lent` is what it could write to.
+fn got_of(answer: &io::Result<usize>, lent: &[u8]) -> isize
+    requires { ReadsAtMost answer.now lent.now }
+    ensures ok { IfOk answer.now (λ n. result ≡ pos n) }
+    ensures failed { IfErr answer.now (λ e. result ≡ negsuc 0) }
+{
+    match answer {
+        Ok(n) => *n as isize,
+        Err(_) => -1,
+    }
+}
+
+// The number of a failed read's error: 4 (EINTR) exactly if it was interrupted, and else 5 (EIO); 0 where none failed.
+fn error_of(answer: &io::Result<usize>) -> i32
+    ensures { IfErr answer.now (λ e. result ≡ pos 4 ↔ error_kind e ≡ ErrorKind.Interrupted) }
+{
+    match answer {
+        Ok(_) => 0,
+        Err(e) => {
+            if e.kind() == ErrorKind::Interrupted {
+                4
+            } else {
+                5
+            }
+        }
+    }
+}
+
 // One read, behind the bytes that are there.
-fn read_on(fd: i32, buf: &mut [u8], at: usize, patience: u32) -> Progress
+fn read_on<R: Read>(reader: &mut R, buf: &mut [u8], at: usize, patience: u32) -> Progress
     requires { at ≤ length buf.old }
     ensures more { OneMore at patience (length buf.old) result }
     ensures size { length buf.new ≡ length buf.old }
+    ensures held { (known : Option (List ℕ)) → Consumes known (R.remaining reader.old) (take at buf.old)
+        → Holds result known (R.remaining reader.new) buf.new }
 {
     let size = buf.len();
-    let got = libc::read(fd, &mut buf[at..]);
-    let error = os::errno();
+    let rest = &mut buf[at..];
+    let answer = reader.read(rest);
+    let got = got_of(&answer, rest);
+    let error = error_of(&answer);
     after_read(at, patience, size, got, error)
 }
 
 // Reads until buf is full or the input ends, and answers how many bytes stand at the front of buf; or that a read failed.
-pub fn read_whole(fd: i32, buf: &mut [u8]) -> Progress
+pub fn read_whole<R: Read>(reader: &mut R, buf: &mut [u8]) -> Progress
     ensures reached { Reached (length buf.old) result }
     ensures over { Over (length buf.new) result }
+    ensures held { Holds result (R.remaining reader.old) (R.remaining reader.new) buf.new }
 {
     let mut at = 0;
     let mut patience = 1000000;
     loop {
-        let progress = read_on(fd, buf, at, patience);
+        let progress = read_on(reader, buf, at, patience);
         match progress {
             Progress::Going(there, left) => {
                 at = there;

@@ -5,7 +5,6 @@ use borrow.Author.Tests.{eq-eqb, ne_eqb}
 use Rattle.whole.proofs.Tests.{not_below}
 use mir.Facts.{to_z-of_z, Fits-nat_abs, Fits-le}
 use Rattle.standard_input.proofs.Laws.{is_four, not_four, zero_got, other_got, moved_within, failed, impatient, again, ended, filled, more}
-use borrow.Author.Rules.{rules}
 use Rattle.standard_input.proofs.after_read.Goals as goal
 
 pub returns-then-error-ne4 : goal.returns-then-error-ne4

@@ -1,17 +1,19 @@
 -- `standard_input::read_whole` meets its contract. Assumes nothing.
-use mathlib.Core.Path.{◌≡◌, refl, subst, ◌∙◌}
-use mathlib.Core.List.{[]}
+use mathlib.Core.Path.{◌≡◌}
 use Prim.Native.Nat.{◌+◌, ◌-◌, ◌≤◌}
-use native.Mathlib.Omega.{arith}
-use lib.ListN.{length}
-use borrow.Author.Rules.{rules}
+use lib.ListN.{length, take}
+use Rattle.std.specs.Io.KnownBytes.{Consumes}
 use Rattle.standard_input.specs.declared.Progress.TheVariants.{Going}
-use Rattle.standard_input.specs.Reads.{after, Reached}
-use Rattle.standard_input.proofs.Laws.{reached_more, Nearer, nearer}
+use Rattle.standard_input.specs.Reads.{Reached}
 use Rattle.standard_input.proofs.read_whole.Given as goal
 
 abbrev pub invariant-loop-there : goal.invariant-loop-there
-invariant-loop-there l = (length l.buf ≡ length l.initial.buf) × (l.at ≤ length l.initial.buf) × Reached (length l.initial.buf) (Going l.at l.patience)
+invariant-loop-there g l = record {
+  long : length l.buf ≡ length l.initial.buf;
+  within : l.at ≤ length l.initial.buf;
+  reached : Reached (length l.initial.buf) (Going l.at l.patience);
+  held : Consumes (g.R.Read.remaining l.initial.reader) (g.R.Read.remaining l.reader) (take l.at l.buf);
+}
 
 abbrev pub decreases-loop-there : goal.decreases-loop-there
-decreases-loop-there l = length l.initial.buf - l.at + l.patience
+decreases-loop-there g l = length l.initial.buf - l.at + l.patience

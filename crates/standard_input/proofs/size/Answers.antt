@@ -1,6 +1,5 @@
 -- `standard_input::size` meets its contract. Assumes nothing.
 use mathlib.Core.Path.{ap, ◌∙◌}
-use borrow.Author.Rules.{rules}
 use Rattle.standard_input.specs.Reads.{bytes}
 use Rattle.standard_input.proofs.Laws.{whole_within, whole_long}
 use Rattle.standard_input.proofs.size.Goals as goal
