@@ -13,7 +13,7 @@ use lib.Signed.{lt_z}
 use mir.Syntax.{w32, w64}
 use mir.Val.{SFits, to_z, of_z}
 use mir.Facts.{to_z-of_z}
-use Rattle.whole.specs.Tests.{if◌then◌else◌, eq_z}
+use Rattle.whole.specs.Tests.{if◌then◌otherwise◌, eq_z}
 use Rattle.whole.proofs.Tests.{eq_z_iff}
 use Rattle.std.proofs.Common.{Result, Ok, Err, IfOk, IfErr}
 use Rattle.std.specs.Io.{ReadsAtMost}

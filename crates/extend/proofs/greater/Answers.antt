@@ -20,7 +20,7 @@ loop-left-preserved c =
     let x = to_z w64 l.a-bits in
     let y = to_z w64 l.b-bits in
     let z = to_z w64 (of_z w64 c.deciding-c.result) in
-    let decides : z ≡ (if eqb l.left 1 then y else x) = kept c.deciding-c.result c.deciding-c.type_inv ∙ c.deciding-c.ensures in
+    let decides : z ≡ (if eqb l.left 1 then y otherwise x) = kept c.deciding-c.result c.deciding-c.type_inv ∙ c.deciding-c.ensures in
     let rest = exceeding (decided l.g x y z) (l.left - 1) (half x) (half y) in
     rw (kept c.upper-a.result c.upper-a.type_inv, kept c.upper-b.result c.upper-b.type_inv, c.upper-a.ensures, c.upper-b.ensures, c.compare_bit-g.ensures.above)
     (left_step l.invariant (comparing l.g x y z) rest (exceeding_turn l.g l.left x y c.loop-left-test.true decides) c.compare_bit-g.ensures.bits)

@@ -15,7 +15,7 @@ bring-p-requires c = record { meeting_a_b = c.requires.meeting_b_c; room = room_
 
 -- the number that is chosen
 module _ (h : After-choice) where
-  is-chosen : to_z w64 (of_z w64 h.choice.result) ≡ (if is_true h.args.a then left h.args.b h.args.c else right h.args.b h.args.c)
+  is-chosen : to_z w64 (of_z w64 h.choice.result) ≡ (if is_true h.args.a then left h.args.b h.args.c otherwise right h.args.b h.args.c)
   is-chosen =
       let m = h.requires.meeting_b_c in
       let b = h.bring-p.ensures in
