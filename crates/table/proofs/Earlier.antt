@@ -8,7 +8,7 @@ use native.Mathlib.Nat.{add-zero}
 use native.Mathlib.Numerals.{add-one}
 use native.Mathlib.Omega.{arith}
 use lib.Dec.{ltb}
-use lib.ListN.{length, get_or, take, drop, set, replicate, take-append-drop, get_or-replicate, get_or-eq_default}
+use lib.ListN.{length, get_or, take, drop, set, replicate, get_or-replicate, get_or-eq_default}
 use lib.Seq.{drop-drop, drop-set-lt, get_or-take, get_or-drop, take-suc-set, length-take-le}
 use borrow.Author.Tests.{ltb-true, ltb-false}
 use Rattle.sheet.specs.declared.Record.{Record}
@@ -18,9 +18,6 @@ use Rattle.table.specs.Surveys.{blank, AllInLimits}
 
 -- l is z from i on
 module _ (l z : List Record) (i : ℕ) (e : drop i l ≡ drop i z) where
-  pub filled : i ≤ length l → take i l ++ drop (length (take i l)) z ≡ l
-  filled h = rw (length-take-le i l h, ← e, take-append-drop)
-
   pub fill : (x : Record) → drop (i + 1) (set l i x) ≡ drop (i + 1) z
   fill x = rw (drop-set-lt (i + 1) l i x (omega arith), ← drop-drop 1 i l, ← drop-drop 1 i z, e)
 

@@ -1,25 +1,23 @@
 -- The walk of a table, one row on and at its end. Assumes nothing.
 use mathlib.Core.Path.{◌≡◌, refl}
 use mathlib.Core.List.{List, [], ◌∷◌, ◌++◌}
-use Prim.Native.Nat.{ℕ, suc, ◌+◌, ◌*◌, ◌-◌, ◌≤◌, ◌<◌, min}
+use Prim.Native.Nat.{ℕ, suc, ◌+◌, ◌*◌, ◌-◌, ◌<◌, min}
 use native.Mathlib.Nat.{sub_self}
 use native.Mathlib.Omega.{arith}
-use lib.Dec.{eqb}
 use lib.ListN.{length, get_or, take, drop}
-use lib.Seq.{drop-drop, get_or-take, length-take-le}
-use Rattle.whole.specs.Tests.{if◌then◌otherwise◌}
+use lib.Seq.{drop-drop}
 use Rattle.circuit.specs.declared.Counts.{Counts}
-use Rattle.circuit.specs.Counting.{◌⊕◌, the_last}
+use Rattle.circuit.specs.Counting.{◌⊕◌}
 use Rattle.sheet.specs.declared.Reading.{Reading}
 use Rattle.sheet.specs.declared.Reading.TheVariants.{Read, Refused}
 use Rattle.sheet.specs.declared.Record.{Record}
 use Rattle.sheet.specs.declared.Verdict.TheVariants.{Pass, Stop}
-use Rattle.sheet.specs.Rows.{read_row, rows_of}
-use Rattle.sheet.specs.Acceptance.{missing, record_at, judge, refused, accepted, ending, walk}
+use Rattle.sheet.specs.Rows.{read_row}
+use Rattle.sheet.specs.Acceptance.{record_at, judge, refused, ending, walk}
 use Rattle.judge.specs.Bounds.{InLimits}
 use Rattle.table.specs.declared.Places.{Places}
 use Rattle.table.specs.Surveys.{places_of, verdict_by}
-use Rattle.table.proofs.Earlier.{zeros, any_default}
+use Rattle.table.proofs.Earlier.{zeros}
 
 -- r of the rows of t are walked, with the records rs, and count so
 module _ (rs : List Record) (so : Counts) (t : List ℕ) (rows r : ℕ) (h : r < rows) where
@@ -60,9 +58,3 @@ pub judged : (rs l : List Record) (r first : ℕ) (q : Reading) {at : Places} �
 unfolding judge
 judged rs l r first (Read f) e m k = rw (e, m, k f.x, k f.y, k f.z)
 judged rs l r first (Refused n) e m k = refl
-
--- the end, by the array's last row
-pub ending_at : (t : List ℕ) (l : List Record) (rows : ℕ) (so : Counts) → 0 < rows → rows ≤ length l
-    → ending t (take rows l) so
-    ≡ (if eqb (get_or l (rows - 1) zeros).sort 1 then refused 10 (rows - 1) otherwise accepted (record { rows = rows_of rows t; records = take rows l; counts = so ⊕ the_last }))
-ending_at t l rows so p n = rw (length-take-le rows l n, get_or-take rows l (rows - 1) missing (omega arith), any_default l (rows - 1) missing zeros (omega arith))

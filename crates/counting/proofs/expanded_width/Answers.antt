@@ -3,7 +3,6 @@ use mathlib.Core.Path.{refl}
 use native.Mathlib.Omega.{arith}
 use borrow.Author.Tests.{eq-eqb, ne_eqb}
 use Rattle.circuit.specs.Counting.{expanded_width}
-use borrow.Author.Rules.{rules}
 use Rattle.counting.proofs.expanded_width.Goals as goal
 
 pub returns-then-factor-eq1 : goal.returns-then-factor-eq1

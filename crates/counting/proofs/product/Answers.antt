@@ -3,7 +3,6 @@ use mathlib.Core.Path.{refl}
 use native.Mathlib.Omega.{arith}
 use Rattle.circuit.specs.Counting.{a_product}
 use Rattle.counting.proofs.Bounds.{square}
-use borrow.Author.Rules.{rules}
 use Rattle.counting.proofs.product.Goals as goal
 
 pub overflow_mul-square : goal.overflow_mul-square

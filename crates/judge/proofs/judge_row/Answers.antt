@@ -1,5 +1,5 @@
 -- `judge::judge_row` meets its contract. Assumes nothing.
-use mathlib.Core.Path.{◌≡◌, sym, ◌∙◌}
+use mathlib.Core.Path.{sym, ◌∙◌}
 use Rattle.judge.proofs.Refusals.{stops, settles}
 use Rattle.judge.proofs.judge_row.Goals as goal
 

@@ -2,7 +2,6 @@
 use mathlib.Core.Path.{◌≡◌, ap}
 use Prim.Native.Nat.{ℕ, ◌*◌, ◌/◌}
 use native.Mathlib.Nat.{pos_of_dvd_of_pos, lt_of_le_of_lt, le_trans, mul-le-mul, div-le_self}
-use borrow.Author.Rules.{rules}
 use lib.Dec.{lit<}
 use Rattle.whole.specs.Divisors.{lcm}
 use Rattle.whole.proofs.Divisors.{lcm_is}

@@ -1,6 +1,5 @@
 -- `row::read_at` meets its contract. Assumes nothing.
 use native.Mathlib.Nat.{add-sub_cancel_left}
-use borrow.Author.Rules.{rules}
 use Rattle.row.proofs.read_at.Goals as goal
 
 pub returns : goal.returns

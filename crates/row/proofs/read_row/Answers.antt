@@ -1,5 +1,5 @@
 -- `row::read_row` meets its contract. Assumes nothing.
-use mathlib.Core.Path.{◌≡◌, sym, ◌∙◌}
+use mathlib.Core.Path.{sym, ◌∙◌}
 use Rattle.row.proofs.Answers.{read_unknown, read_known}
 use Rattle.row.proofs.read_row.Goals as goal
 

@@ -1,5 +1,5 @@
 -- `judge::combined::combined` meets its contract. Assumes nothing.
-use mathlib.Core.Path.{◌≡◌, ◌∙◌}
+use mathlib.Core.Path.{◌∙◌}
 use Rattle.whole.proofs.Divisors.{lcm-pos}
 use Rattle.judge.proofs.Bringing.{Brought, beyond_common, beyond_widest, compares, computes}
 use Rattle.judge.proofs.combined.combined.Goals as goal
