@@ -1,9 +1,10 @@
 -- `product::add_row` meets its contract. Assumes nothing.
 use mathlib.Core.Path.{◌≡◌}
 use mathlib.Core.List.{List}
-use Prim.Native.Nat.{◌-◌, ◌≤◌}
+use Prim.Native.Nat.{ℕ, ◌≤◌}
 use borrow.Author.Rules.{rules}
 use native.Mathlib.Omega.{arith}
+use lib.IntN.{ℤ}
 use lib.ListN.{length}
 use mir.Facts.{to_z-of_z}
 use Rattle.circuit.specs.Literals.{Lit, falsity}
@@ -11,47 +12,48 @@ use Rattle.circuit.specs.Circuits.{Circuit, gates, out}
 use Rattle.circuit.specs.Numbers.{adder}
 use Rattle.frame.specs.Literals.{between}
 use Rattle.frame.specs.Written.{Wrote}
-use Rattle.frame.proofs.Literals.{lit_held, literals_above}
+use Rattle.frame.proofs.Literals.{literals_above}
 use Rattle.frame.proofs.Writing.{bind_first, bind_next, bind_out, bind_wrote}
 use Rattle.product.specs.Multiplying.{anding}
 use Rattle.product.proofs.add_row.Goals as goal
-use Rattle.product.proofs.add_row.Goals.{After-and_row-p, Start}
+use Rattle.product.proofs.add_row.Goals.{After-and_row-p}
 
--- the row of AND gates, and the sum with it
-abbrev row : Start → Circuit (List Lit)
-row s = anding s.args.x s.args.bit s.args.low s.args.width
+-- the sum of the total, from place `low` on, with a row
+abbrev summed : (total : List ℤ) (low width : ℕ) → List Lit → Circuit (List Lit)
+summed total low width r = adder falsity (between low width total) r
 
-abbrev summed : Start → List Lit → Circuit (List Lit)
-summed s r = adder falsity (between s.args.low s.args.width s.args.total) r
+pub and_row-p-requires-clause-room : goal.and_row-p-requires-clause-room
+and_row-p-requires-clause-room c =
+    rw (to_z-of_z c.ranges.bit) (bind_first (anding c.args.x c.args.bit c.args.low c.args.width) (summed c.args.total c.args.low c.args.width) c.requires.room)
 
 -- what the first call leaves
-module _ (p : After-and_row-p) where
-  abbrev start : Start
-  start = p
+module _ (c : After-and_row-p) where
+  abbrev row : Circuit (List Lit)
+  row = anding c.args.x c.args.bit c.args.low c.args.width
 
-  wrote : Wrote start.args.from start.args.first (gates start.args.first (row start)) start.args.slots-1.now p.and_row-p.last.0 p.and_row-p.result.at p.and_row-p.result.next
-  wrote = rw (to_z-of_z start.fits.bit) at p.and_row-p.ensures.wrote
+  abbrev sum : List Lit → Circuit (List Lit)
+  sum = summed c.args.total c.args.low c.args.width
 
-  made : between start.args.low start.args.width p.and_row-p.result.number.bits ≡ out start.args.first (row start)
+  wrote : Wrote c.args.from c.args.first (gates c.args.first row) c.args.slots.now c.and_row-p.new.slots c.and_row-p.result.at c.and_row-p.result.next
+  wrote = rw (to_z-of_z c.ranges.bit) at c.and_row-p.ensures.wrote
+
+  made : between c.args.low c.args.width c.and_row-p.result.number.bits ≡ out c.args.first row
   made =
-      let l : length start.args.total ≡ 48 = search rules in
-      let h : start.args.low ≤ length start.args.total = omega arith in
-      literals_above start.args.low start.args.width p.and_row-p.result.number.bits start.args.total (out start.args.first (row start)) h (rw (to_z-of_z start.fits.bit) at p.and_row-p.ensures.bits)
+      let l : length c.args.total ≡ 48 = search rules in
+      let h : c.args.low ≤ length c.args.total = omega arith in
+      literals_above c.args.low c.args.width c.and_row-p.result.number.bits c.args.total (out c.args.first row) h (rw (to_z-of_z c.ranges.bit) at c.and_row-p.ensures.bits)
 
-pub and_row-p-requires : goal.and_row-p-requires
-and_row-p-requires c =
-    let s = c in record { low_most = s.requires.low_most; width_most = s.requires.width_most; is_lit_bit = lit_held s.args.bit s.requires.is_lit_bit; all_lit_width_x = s.requires.all_lit_width_x; all_lit_width_total = s.requires.all_lit_width_total; room = rw (to_z-of_z s.ranges.bit) (bind_first (row s) (summed s) s.requires.room) }
+pub add-requires-clause-room : goal.add-requires-clause-room
+add-requires-clause-room c =
+    let p = (goal.at.add-requires-clause-room c).After-and_row-p in
+    bind_next (row p) (sum p) c.requires.room (wrote p) (made p)
 
-pub add-requires : goal.add-requires
-add-requires c =
-    let p = c in
-    let s = p in record { low_most = omega arith; width_most = omega arith; is_lit_carry = omega arith; all_lit_width_x = s.requires.all_lit_width_total; all_lit_width_y = p.and_row-p.ensures.all_lit_width_bits; room = bind_next (row s) (summed s) s.requires.room (wrote p) (made p) }
+pub returns-clause-wrote : goal.returns-clause-wrote
+returns-clause-wrote c =
+    let p = (goal.at.returns-clause-wrote c).After-and_row-p in
+    bind_wrote (row p) (sum p) c.requires.room (wrote p) (made p) c.add.ensures.wrote
 
-pub returns : goal.returns
-returns c =
-    let a = c in
-    let p = a in
-    let s = p in
-    let room = s.requires.room in
-    let o = bind_out (row s) (summed s) room (wrote p) (made p) in
-    (bind_wrote (row s) (summed s) room (wrote p) (made p) a.add.ensures.wrote, (rw o a.add.ensures.bits, a.add.ensures.width_is))
+pub returns-clause-bits : goal.returns-clause-bits
+returns-clause-bits c =
+    let p = (goal.at.returns-clause-bits c).After-and_row-p in
+    rw (bind_out (row p) (sum p) c.requires.room (wrote p) (made p)) c.add.ensures.bits

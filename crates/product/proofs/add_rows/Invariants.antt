@@ -1,24 +1,12 @@
 -- `product::add_rows` meets its contract. Assumes nothing.
-use mathlib.Core.Path.{◌≡◌, refl, sym, ◌∙◌}
-use mathlib.Core.List.{List, ◌∷◌, ◌++◌}
-use Prim.Native.Nat.{ℕ, ◌+◌, ◌-◌, ◌≤◌, ◌<◌}
-use borrow.Author.Rules.{rules}
-use native.Mathlib.Omega.{arith}
-use lib.IntN.{ℤ, pos}
-use lib.ListN.{length, get_or, take}
-use mir.Syntax.{w32}
-use mir.Val.{to_z, of_z}
-use Rattle.circuit.specs.Literals.{Lit}
-use Rattle.circuit.specs.Circuits.{Circuit, gates, out}
+use mathlib.Core.List.{List}
+use Prim.Native.Nat.{ℕ, ◌+◌, ◌-◌, ◌<◌}
+use lib.IntN.{ℤ}
+use lib.ListN.{take}
 use Rattle.circuit.specs.Numbers.{add_rows}
-use Rattle.circuit.proofs.Lengths.{after}
-use Rattle.frame.specs.Literals.{literals, literal_at, between, AllLit}
-use Rattle.frame.specs.Written.{Room}
-use Rattle.frame.proofs.Literals.{held_lit, lit_held, take_next, literals_above, kept_below, slots_whole}
-use Rattle.frame.proofs.Writing.{left_room, left_none}
-use Rattle.frame.proofs.Loops.{Filling, filling_all, filling_on}
+use Rattle.frame.specs.Literals.{literals, between, AllLit}
+use Rattle.frame.proofs.Loops.{Filling}
 use Rattle.product.specs.Multiplying.{adding_rows}
-use Rattle.product.proofs.Turns.{row_at, rows_at, rows_out, rows_end, rows_none}
 use Rattle.product.proofs.add_rows.Given as goal
 
 -- the rows of y's bits up to place i are in the total
