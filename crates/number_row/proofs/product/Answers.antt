@@ -9,17 +9,20 @@ use Rattle.number_row.proofs.product.Goals as goal
 
 pub product-requires : goal.product-requires
 product-requires c =
-    let s = c in
-    let a = s.args.a in
-    let b = s.args.b in
-    let o = s.requires.is_over_a.operand in
-    let p = s.requires.is_over_b.operand in
-    let r = number_room (a.record.denominator * b.record.denominator) (product (literals_in a.number) (literals_in b.number)) s.requires.room in record { is_number_x = o.number; is_number_y = p.number; width_most = omega (arith, o.width, p.width, s.requires.width_most); room = r }
+    let a = c.args.a in
+    let b = c.args.b in
+    let o = c.requires.is_over_a.operand in
+    let p = c.requires.is_over_b.operand in
+    record {
+      is_number_x = o.number;
+      is_number_y = p.number;
+      width_most = omega (arith, o.width, p.width, c.requires.width_most);
+      room = number_room (a.record.denominator * b.record.denominator) (product (literals_in a.number) (literals_in b.number)) c.requires.room;
+    }
 
 pub returns : goal.returns
 returns c =
-    let p = c in
-    let s = p in
-    let a = s.args.a in
-    let b = s.args.b in
-    number_made (a.record.denominator * b.record.denominator) (product (literals_in a.number) (literals_in b.number)) p.product.ensures.wrote (p.product.ensures.slots_in_is, p.product.ensures.is_number_number)
+    let a = c.args.a in
+    let b = c.args.b in
+    let e = c.product.ensures in
+    number_made (a.record.denominator * b.record.denominator) (product (literals_in a.number) (literals_in b.number)) e.wrote (e.slots_in_is, e.is_number_number)
