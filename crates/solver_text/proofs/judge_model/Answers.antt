@@ -8,44 +8,34 @@ use Rattle.solver_text.proofs.judge_model.Goals as goal
 
 pub returns-in_default : goal.returns-in_default
 returns-in_default c =
-    let m = c in
-    let s = m.args in
+    let s = c.args in
     let text = s.text.now in
     let bs = signs_in s.variables 1 (drop 16 text) in
-    rw (line_wrong bs text (line_missing bs text (sym m.pass_part-mark.ensures ∙ c.in_default.is)))
+    rw (line_wrong bs text (line_missing bs text (sym c.pass_part-mark.ensures ∙ c.in_default.is)))
 
 pub returns-in_default-line : goal.returns-in_default-line
 returns-in_default-line c =
-    let v = c in
-    let f = v in
-    let m = f in
-    let s = m.args in
+    let s = c.args in
     let text = s.text.now in
     let bs = signs_in s.variables 1 (drop 16 text) in
-    let (at, line) = line_follows bs text _ (sym m.pass_part-mark.ensures ∙ f.in-Next.is) in
-    let step = line ∙ sym (rw at at v.pass_variables-line.ensures) ∙ c.in_default-line.is in
+    let (at, line) = line_follows bs text _ (sym c.pass_part-mark.ensures ∙ c.in-Next.is) in
+    let step = line ∙ sym (rw at at c.pass_variables-line.ensures) ∙ c.in_default-line.is in
     rw (line_wrong bs text step)
 
 pub returns-then-end-text : goal.returns-then-end-text
 returns-then-end-text c =
-    let v = c in
-    let f = v in
-    let m = f in
-    let s = m.args in
+    let s = c.args in
     let text = s.text.now in
     let bs = signs_in s.variables 1 (drop 16 text) in
-    let (at, line) = line_follows bs text _ (sym m.pass_part-mark.ensures ∙ f.in-Next.is) in
-    let step = line ∙ sym (rw at at v.pass_variables-line.ensures) ∙ c.in-Next-line.is in
+    let (at, line) = line_follows bs text _ (sym c.pass_part-mark.ensures ∙ c.in-Next.is) in
+    let step = line ∙ sym (rw at at c.pass_variables-line.ensures) ∙ c.in-Next-line.is in
     rw (line_not_last bs text _ step c.if-end-text.true)
 
 pub returns : goal.returns
 returns c =
-    let v = c in
-    let f = v in
-    let m = f in
-    let s = m.args in
+    let s = c.args in
     let text = s.text.now in
     let bs = signs_in s.variables 1 (drop 16 text) in
-    let (at, line) = line_follows bs text _ (sym m.pass_part-mark.ensures ∙ f.in-Next.is) in
-    let step = line ∙ sym (rw at at v.pass_variables-line.ensures) ∙ c.in-Next-line.is in
+    let (at, line) = line_follows bs text _ (sym c.pass_part-mark.ensures ∙ c.in-Next.is) in
+    let step = line ∙ sym (rw at at c.pass_variables-line.ensures) ∙ c.in-Next-line.is in
     rw (line_alone bs text _ step c.if-end-text.false)

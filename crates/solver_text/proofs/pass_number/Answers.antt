@@ -8,13 +8,10 @@ use Rattle.solver_text.proofs.pass_number.Goals as goal
 
 pub returns-in_default : goal.returns-in_default
 returns-in_default c =
-    let e = c in
-    let s = e.args in
-    sym (pass_stops (decimal s.n) s.at s.text.now (32 ∷ []) (sym e.pass_decimal-step.ensures ∙ c.in_default.is))
+    let s = c.args in
+    sym (pass_stops (decimal s.n) s.at s.text.now (32 ∷ []) (sym c.pass_decimal-step.ensures ∙ c.in_default.is))
 
 pub returns : goal.returns
 returns c =
-    let k = c in
-    let e = k in
-    let s = e.args in
-    c.pass_byte.ensures ∙ sym (pass_then (decimal s.n) s.at s.text.now (32 ∷ []) _ (sym e.pass_decimal-step.ensures ∙ k.in-Next.is))
+    let s = c.args in
+    c.pass_byte.ensures ∙ sym (pass_then (decimal s.n) s.at s.text.now (32 ∷ []) _ (sym c.pass_decimal-step.ensures ∙ c.in-Next.is))

@@ -7,18 +7,15 @@ use Rattle.solver_text.proofs.pass_variable.Goals as goal
 
 pub overflow_add-at : goal.overflow_add-at
 overflow_add-at c =
-    let g = c in
-    let s = g.args in
-    omega (arith, (minus_there s.text.now s.at (sym g.sign_at.ensures ∙ c.if-sign_at-eq0.true)).0)
+    let s = c.args in
+    omega (arith, (minus_there s.text.now s.at (sym c.sign_at.ensures ∙ c.if-sign_at-eq0.true)).0)
 
 pub returns-then-sign_at-eq0 : goal.returns-then-sign_at-eq0
 returns-then-sign_at-eq0 c =
-    let g = c in
-    let s = g.args in
-    c.pass_number.ensures ∙ sym (variable_minus s.text.now s.at s.k (sym g.sign_at.ensures ∙ c.if-sign_at-eq0.true))
+    let s = c.args in
+    c.pass_number.ensures ∙ sym (variable_minus s.text.now s.at s.k (sym c.sign_at.ensures ∙ c.if-sign_at-eq0.true))
 
 pub returns : goal.returns
 returns c =
-    let g = c in
-    let s = g.args in
-    c.pass_number-2.ensures ∙ sym (variable_plain s.text.now s.at s.k (λ e. c.if-sign_at-eq0.false (g.sign_at.ensures ∙ e)))
+    let s = c.args in
+    c.pass_number-2.ensures ∙ sym (variable_plain s.text.now s.at s.k (λ e. c.if-sign_at-eq0.false (c.sign_at.ensures ∙ e)))

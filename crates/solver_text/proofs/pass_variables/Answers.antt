@@ -14,40 +14,34 @@ use Rattle.solver_text.proofs.pass_variables.Invariants.{Left}
 use Rattle.solver_text.proofs.pass_variables.Goals as goal
 
 pub loop-i-init : goal.loop-i-init
-loop-i-init c = (refl, record { within = omega arith; left = rw sub-zero })
+loop-i-init c = record { within = omega arith; left = rw sub-zero }
 
 pub returns-in_default : goal.returns-in_default
 returns-in_default c =
-    let v = c in
-    let t = v in
-    let s = t.args in
+    let s = c.args in
     let text = s.text.now in
-    let i = t.loop-i.i in
-    let at = t.loop-i.at in
+    let i = c.loop-i.i in
+    let at = c.loop-i.at in
     let h : i < s.variables = omega arith in
     let here = variable_here text s.variables i at in
-    let stop = pass_stops here at text (line_here text s.variables (i + 1) (at + length here)) (sym v.pass_variable-step.ensures ∙ c.in_default.is) in
-    sym stop ∙ rw (← line_more text s.variables i at h) t.loop-i.invariant.1.left
+    let stop = pass_stops here at text (line_here text s.variables (i + 1) (at + length here)) (sym c.pass_variable-step.ensures ∙ c.in_default.is) in
+    sym stop ∙ rw (← line_more text s.variables i at h) c.loop-i.invariant.left
 
 pub loop-i-preserved : goal.loop-i-preserved
 loop-i-preserved c =
-    let k = c in
-    let v = k in
-    let t = v in
-    let s = t.args in
+    let s = c.args in
     let text = s.text.now in
-    let i = t.loop-i.i in
-    let at = t.loop-i.at in
+    let i = c.loop-i.i in
+    let at = c.loop-i.at in
     let here = variable_here text s.variables i at in
     let h : i < s.variables = omega arith in
-    let step = sym v.pass_variable-step.ensures ∙ k.in-Next.is in
+    let step = sym c.pass_variable-step.ensures ∙ c.in-Next.is in
     let end = (passed here at text _ step).1 in
     let go = pass_then here at text (line_here text s.variables (i + 1) (at + length here)) _ step in
-    (t.loop-i.invariant.0, record { within = omega arith; left = rw end (sym (rw end at go) ∙ rw (← line_more text s.variables i at h) t.loop-i.invariant.1.left) })
+    record { within = omega arith; left = rw end (sym (rw end at go) ∙ rw (← line_more text s.variables i at h) c.loop-i.invariant.left) }
 
 pub returns : goal.returns
 returns c =
-    let t = c in
-    let s = t.args in
-    let e = line_end s.text.now s.variables t.loop-i.i t.loop-i.at (omega arith) in
-    (rw t.loop-i.invariant.0 at c.pass_part.ensures) ∙ (rw e at t.loop-i.invariant.1.left)
+    let s = c.args in
+    let e = line_end s.text.now s.variables c.loop-i.i c.loop-i.at (omega arith) in
+    c.pass_part.ensures ∙ (rw e at c.loop-i.invariant.left)

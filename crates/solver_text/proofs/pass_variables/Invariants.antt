@@ -18,7 +18,7 @@ pub record Left (text : List ℕ) (from variables i at : ℕ) : Type 0 where
   pub left : passing (line_here text variables i at) at text ≡ passing (variable_texts (signs_in variables 1 (drop from text)) 1) from text
 
 abbrev pub invariant-loop-i : goal.invariant-loop-i
-invariant-loop-i l = (l.i ≡ 48 ∷ 10 ∷ []) × Left l.text l.from l.variables l.at at
+invariant-loop-i l = Left l.text l.from l.variables l.i l.at
 
 abbrev pub decreases-loop-i : goal.decreases-loop-i
-decreases-loop-i l = l.variables - l.at
+decreases-loop-i l = l.variables - l.i

@@ -16,44 +16,40 @@ use Rattle.solver_text.proofs.put_model.Goals as goal
 
 pub loop-i-init : goal.loop-i-init
 loop-i-init c =
-    let s = c in
-    (refl, record { within = omega arith; long = refl; stands = rw sub-zero s.requires.starts_is; left = rw sub-zero (over_zero _ _) })
+    (refl, record { within = omega arith; long = refl; stands = rw sub-zero c.requires.starts_is; left = rw sub-zero (over_zero _ _) })
 
 pub overflow_add-at : goal.overflow_add-at
 overflow_add-at c =
-    let t = c in
-    let s = t.args in
+    let s = c.args in
     let text = s.text.now in
-    let i = t.loop-i.i in
-    let at = t.loop-i.at in
-    let inv = t.loop-i.invariant.1 in
+    let i = c.loop-i.i in
+    let at = c.loop-i.at in
+    let inv = c.loop-i.invariant.1 in
     let h : i < s.variables = omega arith in
     let e : c.variable_length-at.result ≡ length (variable_here text s.variables i at) = rw c.sign_at-sign.ensures at c.variable_length-at.ensures in
     omega (arith, e, stands_within text s.variables i at h inv.stands)
 
 pub loop-i-preserved : goal.loop-i-preserved
 loop-i-preserved c =
-    let t = c in
-    let s = t.args in
+    let s = c.args in
     let text = s.text.now in
-    let i = t.loop-i.i in
-    let at = t.loop-i.at in
-    let inv = t.loop-i.invariant.1 in
+    let i = c.loop-i.i in
+    let at = c.loop-i.at in
+    let inv = c.loop-i.invariant.1 in
     let h : i < s.variables = omega arith in
     let e : c.variable_length-at.result ≡ length (variable_here text s.variables i at) = rw c.sign_at-sign.ensures at c.variable_length-at.ensures in
-    let k : i < length t.loop-i.model = omega arith in
+    let k : i < length c.loop-i.model = omega arith in
     let rest = signs_in (s.variables - (i + 1)) (i + 1 + 1) (drop (at + length (variable_here text s.variables i at)) text) in (
-      t.loop-i.invariant.0,
+      c.loop-i.invariant.0,
       rw e (record {
         within = omega arith;
         long = simp length-set inv.long;
         stands = stands_next text s.variables i at h inv.stands;
-        left = rw (c.sign_at-sign.ensures, over-set i (sign_at (drop at text)) rest t.loop-i.model k, ← signs_more text s.variables i at h) inv.left;
+        left = rw (c.sign_at-sign.ensures, over-set i (sign_at (drop at text)) rest c.loop-i.model k, ← signs_more text s.variables i at h) inv.left;
       }),
     )
 
 pub returns : goal.returns
 returns c =
-    let t = c in
-    let s = t.args in
-    rw (signs_end s.text.now s.variables t.loop-i.i t.loop-i.at (omega arith), over_none) at t.loop-i.invariant.1.left
+    let s = c.args in
+    rw (signs_end s.text.now s.variables c.loop-i.i c.loop-i.at (omega arith), over_none) at c.loop-i.invariant.1.left
