@@ -21,33 +21,23 @@ blank-long = length-replicate {A = ℕ} 2048 0
 
 pub slice_bounds-table-end : goal.slice_bounds-table-end
 slice_bounds-table-end c =
-    let r = c in
-    let l = r in
-    let s = l in
-    let few = found_few false s.args.text.now blank blank-long r.in-Read.found (rw r.in-Read.is at l.read_lines-read.ensures.answer) in
-    let long : length l.read_lines-read.new.1.0 ≡ 2048 = search rules in
+    let few = found_few false c.args.text.now blank blank-long c.in-Read.found c.in-Read.ensures.answer in
+    let long : length c.read_lines-read.new.table ≡ 2048 = search rules in
     omega (arith, few, long)
 
 pub slice_bounds-write_clauses-end : goal.slice_bounds-write_clauses-end
 slice_bounds-write_clauses-end c =
-    let r = c in
-    let l = r in
-    sym (length-take-le (8 * r.in-Read.found.rows) l.read_lines-read.new.1.0 (array-share-prefix-table c))
+    let few = found_few false c.args.text.now blank blank-long c.in-Read.found c.in-Read.ensures.answer in
+    let long : length c.read_lines-read.new.table ≡ 2048 = search rules in
+    sym (length-take-le (8 * c.in-Read.found.rows) c.read_lines-read.new.table (omega (arith, few, long)))
 
 pub returns-in-Refused : goal.returns-in-Refused
 returns-in-Refused c =
-    let r = c in
-    let l = r in
-    let s = l in
-    let o = lines_refused false s.args.text.now blank blank-long _ _ (rw r.in-Refused.is at l.read_lines-read.ensures.answer) in record { answer = rw o; slots = left_refused sheet_slots s.args.slots-1.now o }
+    let o = lines_refused false c.args.text.now blank blank-long _ _ c.in-Refused.ensures.answer in record { answer = rw o; slots = left_refused sheet_slots c.args.slots.now o }
 
 pub returns-in-Read : goal.returns-in-Read
 returns-in-Read c =
-    let w = c in
-    let r = w in
-    let l = r in
-    let s = l in
-    let text = s.args.text.now in
-    let found = r.in-Read.found in
-    let e = rw r.in-Read.is at l.read_lines-read.ensures.answer in
-    rw (found_table false text blank blank-long found e l.read_lines-read.ensures.table, found_sheet false text blank blank-long found e) at w.write_clauses.ensures
+    let text = c.args.text.now in
+    let found = c.in-Read.found in
+    let e = c.in-Read.ensures.answer in
+    rw (found_table false text blank blank-long found e c.read_lines-read.ensures.table, found_sheet false text blank blank-long found e) at c.write_clauses.ensures

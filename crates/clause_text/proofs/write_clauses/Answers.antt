@@ -7,11 +7,8 @@ use Rattle.clause_text.proofs.write_clauses.Goals as goal
 
 pub returns-then-s-eq0 : goal.returns-then-s-eq0
 returns-then-s-eq0 c =
-    let w = c in
-    let table = w.args.table.now in
-    let (value, (bounds, (map, slots))) = w.write_sheet-s.ensures in record { answer = counts_accepted (sheet_of table) value (sheet_numbered table) c.if-s-eq0.true; slots = slots }
+    let table = c.args.table.now in
+    let w = c.write_sheet-s.ensures in record { answer = counts_accepted (sheet_of table) w.answer (sheet_numbered table) c.if-s-eq0.true; slots = w.slots }
 
 pub returns : goal.returns
-returns c =
-    let w = c in
-    let (value, (bounds, (map, slots))) = w.write_sheet-s.ensures in record { answer = counts_refused (sheet_of w.args.table.now) value c.if-s-eq0.false; slots = slots }
+returns c = let w = c.write_sheet-s.ensures in record { answer = counts_refused (sheet_of c.args.table.now) w.answer c.if-s-eq0.false; slots = w.slots }

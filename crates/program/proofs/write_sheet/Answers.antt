@@ -6,7 +6,5 @@ use Rattle.program.proofs.write_sheet.Goals as goal
 
 pub returns : goal.returns
 returns c =
-    let w = c in
-    let s = w in
-    let (room, slots) = s.requires in
-    rw (slots, writing_sheet s.args.table.now (length s.args.map-1.now) room) at w.write_core.ensures
+    let r = c.requires in
+    rw (r.slots_length, writing_sheet c.args.table.now (length c.args.map.now) r.map_room) at c.write_core.ensures
