@@ -10,8 +10,8 @@ find_library() {
     local archive=$root/target/staticlib/libfordrambler_c.a compiler=gcc
     SERVER=
     if command -v rt >/dev/null; then
-        (cd "$root" && rt staticlib fordrambler_c) >target/staticlib.log 2>&1 ||
-            { tail -n 5 target/staticlib.log; echo "harness: rt staticlib fordrambler_c failed"; return 1; }
+        "$root/tools/build" fordrambler_c >target/staticlib.log 2>&1 ||
+            { tail -n 5 target/staticlib.log; echo "harness: tools/build fordrambler_c failed"; return 1; }
     fi
     if [ ! -f "$archive" ]; then
         echo "harness: target/staticlib/libfordrambler_c.a is not there, and no rt to build it"
@@ -36,7 +36,7 @@ find_program() { # NAME
     local runner
     found=
     if [ ! -x "$root/target/bin/$1" ]; then
-        echo "harness: target/bin/$1 is not there; rt check $1 builds it"
+        echo "harness: target/bin/$1 is not there; tools/build $1 builds it"
         return 1
     fi
     find_runner

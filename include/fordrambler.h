@@ -4,7 +4,7 @@
    calls check a table, measure and write its clauses, find exact values, and turn a solver's model back into settings. examples/c has a
    program that uses them.
 
-   target/staticlib/libfordrambler_c.a has them, for x86-64 Linux (`rt staticlib fordrambler_c`); examples/c/README.md says what to do elsewhere.
+   target/staticlib/libfordrambler_c.a has them, for x86-64 Linux (`tools/build fordrambler_c`); examples/c/README.md says what to do elsewhere.
    What each call owes is proved: the contracts stand in crates/fordrambler_c/src/lib.rt.
 
    Every call answers FORDRAMBLER_DONE, or the number of a refusal. *place is always written: 0 when done, at a refusal what is said

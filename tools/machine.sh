@@ -14,24 +14,18 @@ need() { # COMMAND PACKAGE...
     command -v "$command" >/dev/null || { echo "$me: $command is missing (Debian package $1)"; return 1; }
 }
 
-# The folder of the Rattle kit's compiler: its loader, its C library and, where the machine isn't x86-64, its emulator.
+# The folder of the Rattle kit's compiler, with its loader and its C library. The kit is for x86-64.
 kit() {
     command -v rt >/dev/null || return
     local home
     home=$(cd "$(dirname "$(readlink -f "$(command -v rt)")")/.." && pwd)
-    [ -d "$home/on/$machine/toolchain" ] && echo "$home/on/$machine/toolchain"
+    [ "$machine" = x86_64 ] && [ -d "$home/toolchain" ] && echo "$home/toolchain"
 }
 
 # The command that runs x86-64 programs here; nothing is needed on x86-64.
 emulator() {
     [ "$machine" = x86_64 ] && return
-    local tools
-    tools=$(kit)
-    if [ -n "$tools" ] && [ -x "$tools/bin/qemu-x86_64" ]; then
-        echo "$tools/bin/qemu-x86_64"
-    else
-        need qemu-x86_64 qemu-user >&2 && command -v qemu-x86_64
-    fi
+    need qemu-x86_64 qemu-user >&2 && command -v qemu-x86_64
 }
 
 # Sets `runner` to the words that stand before a program of target/bin: emulator, the kit's loader and its libraries, as far as needed.

@@ -13,13 +13,13 @@ fingerprint() {
     (
         cd "$root" || exit
         {
-            find crates crates.txt -type f -print0 | sort -z | xargs -0 sha256sum
+            find crates crates.txt -name out -prune -o -type f -print0 | sort -z | xargs -0 sha256sum
             cd target/bin && sha256sum "${programs[@]}"
         } 2>/dev/null | sha256sum
     )
 }
 
-# Whether the programs are here, and are what rt last made of these sources.
+# Whether the programs are here, and are what tools/build last made of these sources.
 up_to_date() { built && [ "$(cat "$root/target/solve.built" 2>/dev/null)" = "$(fingerprint)" ]; }
 
 # Says how it is known that programs which are not up to date are of other sources: by what was noted when they were built, else by the
@@ -31,7 +31,7 @@ changed() {
         return
     fi
     for name in "${programs[@]}"; do
-        [ -z "$(find "$root/crates" "$root/crates.txt" -newer "$root/target/bin/$name" -print -quit)" ] || {
+        [ -z "$(find "$root/crates" "$root/crates.txt" -name out -prune -o -type f -newer "$root/target/bin/$name" -print -quit)" ] || {
             echo "the sources are younger than the programs"
             return
         }
@@ -49,13 +49,13 @@ why_build() {
     local why
     if built; then
         why=$(changed)
-        echo "${why:-nothing tells whether the programs are of these sources}: proving and building what changed (rt check ${programs[*]})"
+        echo "${why:-nothing tells whether the programs are of these sources}: proving and building what changed (tools/build ${programs[*]})"
     else
-        echo "first run: proving and building the programs (rt check ${programs[*]}). This takes some minutes, once."
+        echo "first run: proving and building the programs (tools/build ${programs[*]}). This takes some minutes, once."
     fi
 }
 
-# Proves and builds the programs, unless they are up to date. rt itself knows what has changed.
+# Proves and builds the programs, unless they are up to date. rt itself knows what has to be proved again.
 build() {
     local log=$root/target/solve.log
     ! up_to_date || return 0
@@ -69,7 +69,7 @@ build() {
     fi
     say "$(why_build)"
     # the last cat: if nobody reads what rt says, that must not end rt
-    (cd "$root" && rt check "${programs[@]}") 2>&1 | tee "$log" |
+    (cd "$root" && tools/build "${programs[@]}") 2>&1 | tee "$log" |
         { grep --line-buffered '^rt: ' | grep --line-buffered -v 'unchanged since' >&2; cat >/dev/null; }
     [ "${PIPESTATUS[0]}" -eq 0 ] || stop 3 "the programs could not be built; $log says why"
     built || stop 3 "rt has built no programs; $log says what it did"

@@ -7,7 +7,7 @@ fresh() { env -u CLAUSES -u SETTINGS -u VALUES -u COSTS PATH="$work/kit:$work/ba
 make_copy() {
     bare_path
     rm -rf "$work/copy" "$work/kit"
-    mkdir -p "$work/copy/crates/clauses/src"
+    mkdir -p "$work/copy/crates"/{clauses,settings,values,costs}/src
     cp -r solve tools "$work/copy"
     echo 'clauses:' >"$work/copy/crates.txt"
     echo '// 1' >"$work/copy/crates/clauses/src/main.rt"
@@ -19,16 +19,16 @@ make_copy() {
     command_of made/costs 'echo'
 }
 
-# Makes an rt of one line, which notes that it was called.
+# Makes an rt of one line, which notes that it was called. tools/build calls it in the folder of each program, and looks for out/NAME there.
 make_rt() { # LINE
-    command_of kit/rt "echo \"\$*\" >>'$work/rt.called'; $1"
+    command_of kit/rt "echo \"\$*\" >>'$work/rt.called'; name=\$(basename \"\$PWD\"); mkdir -p out; $1"
     rm -f "$work/rt.called"
 }
 
 # That rt was called so many times.
 called() { # NAME TIMES
     cases=$((cases + 1))
-    [ "$(grep -c . "$work/rt.called" 2>/dev/null)" = "$2" ] || fail "$1: rt was not called $2 times"
+    [ "$(grep -c . "$work/rt.called" 2>/dev/null)" = "$((4 * $2))" ] || fail "$1: rt was not called $2 times for each program"
 }
 
 not_built() {
@@ -37,14 +37,14 @@ not_built() {
     make_rt 'echo rt: whole refused; exit 1'
     expect "a proof that fails" 3 /dev/null 'could not be built' fresh
     make_rt :
-    expect "no programs" 3 /dev/null 'rt has built no programs' fresh
-    make_rt "mkdir -p target/bin; cp '$work/made/clauses' target/bin/"
-    expect "a program of four" 3 /dev/null 'rt has built no programs' fresh
+    expect "no programs" 3 /dev/null 'could not be built' fresh
+    make_rt "cp '$work/made/clauses' out/"
+    expect "a program of four" 3 /dev/null 'could not be built' fresh
 }
 
 changed_sources() {
     make_copy
-    make_rt "mkdir -p target/bin; cp '$work'/made/* target/bin/; echo rt: done"
+    make_rt "cp '$work/made/'\$name out/; echo rt: done"
     expect "a first run" 20 examples/both.expected 'first run: proving and building' fresh
     also "rt's own words" '^rt: done$'
     expect "a second run" 20 examples/both.expected '^solve: 3 rows$' fresh
@@ -66,16 +66,16 @@ changed_sources() {
     called "a new source, another program" 5
 }
 
-# Programs that others built: by rt alone, or where there is no rt.
+# Programs that others built, or where there is no rt.
 built_elsewhere() {
     make_copy
     mkdir -p "$work/copy/target"
     cp -r "$work/made" "$work/copy/target/bin"
-    touch -d '2001-01-01' "$work/copy/crates.txt" "$work/copy/crates" "$work/copy/crates/clauses"{,/src,/src/main.rt}
+    find "$work/copy/crates.txt" "$work/copy/crates" -exec touch -d '2001-01-01' {} +
     expect "no rt, and nothing has changed" 20 examples/both.expected '^solve: 3 rows$' fresh
-    make_rt :
-    expect "built by rt alone" 20 examples/both.expected 'nothing tells whether the programs are of these sources' fresh
-    called "built by rt alone" 1
+    make_rt "cp '$work/made/'\$name out/"
+    expect "built by others" 20 examples/both.expected 'nothing tells whether the programs are of these sources' fresh
+    called "built by others" 1
     expect "once more" 20 examples/both.expected '^solve: 3 rows$' fresh
     called "once more" 1
     rm "$work/kit/rt"
@@ -97,8 +97,8 @@ first_run() {
     done
     make_copy
     rm "$work/kit/uname"
-    ln -s "$(dirname "$(dirname "$(readlink -f "$real")")")/on" "$work/on"
-    make_rt "mkdir -p target; cp -r '$root/target/bin' target/"
+    ln -s "$(dirname "$(dirname "$(readlink -f "$real")")")/toolchain" "$work/toolchain"
+    make_rt "cp '$root/target/bin/'\$name out/"
     expect "a first run with the proved programs" 20 examples/both.expected 'first run: proving and building' fresh
 }
 
