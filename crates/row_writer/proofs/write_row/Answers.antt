@@ -11,69 +11,118 @@ unknown-requires c =
 
 pub natural-requires : goal.natural-requires
 natural-requires c =
-    let s = c in let told = natural_limits s.args.f.p s.args.f.z (rw c.in-NaturalUnknown.is at s.requires.ready_f_a_b_c.widest) (rw c.in-NaturalUnknown.is at s.requires.room) in record { p_most = told.0; first_below = told.1 }
+    let told = natural_limits c.args.f.p c.args.f.z (rw c.in-NaturalUnknown.is at c.requires.ready_f_a_b_c.widest) (rw c.in-NaturalUnknown.is at c.requires.room) in
+    record { p_most = told.0; first_below = told.1 }
 
 pub integer-requires : goal.integer-requires
 integer-requires c =
-    let s = c in let told = integer_limits s.args.f.p s.args.f.z (rw c.in-IntegerUnknown.is at s.requires.ready_f_a_b_c.ranged) (rw c.in-IntegerUnknown.is at s.requires.ready_f_a_b_c.widest) (rw c.in-IntegerUnknown.is at s.requires.room) in record { p_least = told.0; p_most = told.1.0; first_below = told.1.1 }
+    let told = integer_limits c.args.f.p c.args.f.z (rw c.in-IntegerUnknown.is at c.requires.ready_f_a_b_c.ranged) (rw c.in-IntegerUnknown.is at c.requires.ready_f_a_b_c.widest) (rw c.in-IntegerUnknown.is at c.requires.room) in
+    record { p_least = told.0; p_most = told.1.0; first_below = told.1.1 }
 
 pub and-requires : goal.and-requires
 and-requires c =
-    let s = c in record { is_number_number = s.requires.ready_f_a_b_c.left.operand.number; is_number_number_too = s.requires.ready_f_a_b_c.right.operand.number; room = rw c.in-And.is at s.requires.room }
+    record {
+      is_number_number = c.requires.ready_f_a_b_c.left.operand.number;
+      is_number_number_too = c.requires.ready_f_a_b_c.right.operand.number;
+      room = rw c.in-And.is at c.requires.room;
+    }
 
 pub or-requires : goal.or-requires
 or-requires c =
-    let s = c in record { is_number_number = s.requires.ready_f_a_b_c.left.operand.number; is_number_number_too = s.requires.ready_f_a_b_c.right.operand.number; room = rw c.in-Or.is at s.requires.room }
+    record {
+      is_number_number = c.requires.ready_f_a_b_c.left.operand.number;
+      is_number_number_too = c.requires.ready_f_a_b_c.right.operand.number;
+      room = rw c.in-Or.is at c.requires.room;
+    }
 
 pub implies-requires : goal.implies-requires
 implies-requires c =
-    let s = c in record { is_number_number = s.requires.ready_f_a_b_c.left.operand.number; is_number_number_too = s.requires.ready_f_a_b_c.right.operand.number; room = rw c.in-Implies.is at s.requires.room }
+    record {
+      is_number_number = c.requires.ready_f_a_b_c.left.operand.number;
+      is_number_number_too = c.requires.ready_f_a_b_c.right.operand.number;
+      room = rw c.in-Implies.is at c.requires.room;
+    }
 
 pub iff-requires : goal.iff-requires
 iff-requires c =
-    let s = c in record { is_number_number = s.requires.ready_f_a_b_c.left.operand.number; is_number_number_too = s.requires.ready_f_a_b_c.right.operand.number; room = rw c.in-Iff.is at s.requires.room }
+    record {
+      is_number_number = c.requires.ready_f_a_b_c.left.operand.number;
+      is_number_number_too = c.requires.ready_f_a_b_c.right.operand.number;
+      room = rw c.in-Iff.is at c.requires.room;
+    }
 
 pub sum-requires : goal.sum-requires
 sum-requires c =
-    let s = c in record { is_over_a = s.requires.ready_f_a_b_c.left; is_over_b = s.requires.ready_f_a_b_c.right; larger_most = rw c.in-Sum.is at s.requires.ready_f_a_b_c.widest; room = rw c.in-Sum.is at s.requires.room }
+    record {
+      is_over_a = c.requires.ready_f_a_b_c.left;
+      is_over_b = c.requires.ready_f_a_b_c.right;
+      larger_most = rw c.in-Sum.is at c.requires.ready_f_a_b_c.widest;
+      room = rw c.in-Sum.is at c.requires.room;
+    }
 
 pub difference-requires : goal.difference-requires
 difference-requires c =
-    let s = c in record { is_over_a = s.requires.ready_f_a_b_c.left; is_over_b = s.requires.ready_f_a_b_c.right; larger_most = rw c.in-Difference.is at s.requires.ready_f_a_b_c.widest; room = rw c.in-Difference.is at s.requires.room }
+    record {
+      is_over_a = c.requires.ready_f_a_b_c.left;
+      is_over_b = c.requires.ready_f_a_b_c.right;
+      larger_most = rw c.in-Difference.is at c.requires.ready_f_a_b_c.widest;
+      room = rw c.in-Difference.is at c.requires.room;
+    }
 
 pub product-requires : goal.product-requires
 product-requires c =
-    let s = c in record { is_over_a = s.requires.ready_f_a_b_c.left; is_over_b = s.requires.ready_f_a_b_c.right; width_most = rw c.in-Product.is at s.requires.ready_f_a_b_c.widest; room = rw c.in-Product.is at s.requires.room }
+    record {
+      is_over_a = c.requires.ready_f_a_b_c.left;
+      is_over_b = c.requires.ready_f_a_b_c.right;
+      width_most = rw c.in-Product.is at c.requires.ready_f_a_b_c.widest;
+      room = rw c.in-Product.is at c.requires.room;
+    }
 
 pub choice-requires : goal.choice-requires
 choice-requires c =
-    let s = c in record { is_over_a = s.requires.ready_f_a_b_c.left; is_over_b = s.requires.ready_f_a_b_c.right; is_over_c = s.requires.ready_f_a_b_c.third; larger_most = rw c.in-Choice.is at s.requires.ready_f_a_b_c.widest; room = rw c.in-Choice.is at s.requires.room }
+    record {
+      is_over_a = c.requires.ready_f_a_b_c.left;
+      is_over_b = c.requires.ready_f_a_b_c.right;
+      is_over_c = c.requires.ready_f_a_b_c.third;
+      larger_most = rw c.in-Choice.is at c.requires.ready_f_a_b_c.widest;
+      room = rw c.in-Choice.is at c.requires.room;
+    }
 
 pub greater-requires : goal.greater-requires
 greater-requires c =
-    let s = c in record { is_over_a = s.requires.ready_f_a_b_c.left; is_over_b = s.requires.ready_f_a_b_c.right; larger_most = rw c.in-Greater.is at s.requires.ready_f_a_b_c.widest; room = rw c.in-Greater.is at s.requires.room }
+    record {
+      is_over_a = c.requires.ready_f_a_b_c.left;
+      is_over_b = c.requires.ready_f_a_b_c.right;
+      larger_most = rw c.in-Greater.is at c.requires.ready_f_a_b_c.widest;
+      room = rw c.in-Greater.is at c.requires.room;
+    }
 
 pub equal-requires : goal.equal-requires
 equal-requires c =
-    let s = c in record { is_over_a = s.requires.ready_f_a_b_c.left; is_over_b = s.requires.ready_f_a_b_c.right; larger_most = rw c.in-Equal.is at s.requires.ready_f_a_b_c.widest; room = rw c.in-Equal.is at s.requires.room }
+    record {
+      is_over_a = c.requires.ready_f_a_b_c.left;
+      is_over_b = c.requires.ready_f_a_b_c.right;
+      larger_most = rw c.in-Equal.is at c.requires.ready_f_a_b_c.widest;
+      room = rw c.in-Equal.is at c.requires.room;
+    }
 
 pub returns-in-BooleanConstant : goal.returns-in-BooleanConstant
-returns-in-BooleanConstant c = rw c.in-BooleanConstant.is (c.flag.ensures c.args.slots-1.now)
+returns-in-BooleanConstant c = rw c.in-BooleanConstant.is (c.flag.ensures c.args.slots.now)
 
 pub returns-in-BooleanUnknown : goal.returns-in-BooleanUnknown
-returns-in-BooleanUnknown c = rw c.in-BooleanUnknown.is (c.unknown.ensures c.args.slots-1.now)
+returns-in-BooleanUnknown c = rw c.in-BooleanUnknown.is (c.unknown.ensures c.args.slots.now)
 
 pub returns-in-NaturalUnknown : goal.returns-in-NaturalUnknown
-returns-in-NaturalUnknown c = rw c.in-NaturalUnknown.is (c.natural.ensures c.args.f.z c.args.slots-1.now)
+returns-in-NaturalUnknown c = rw c.in-NaturalUnknown.is (c.natural.ensures c.args.f.z c.args.slots.now)
 
 pub returns-in-IntegerUnknown : goal.returns-in-IntegerUnknown
-returns-in-IntegerUnknown c = rw c.in-IntegerUnknown.is (c.integer.ensures c.args.f.z c.args.slots-1.now)
+returns-in-IntegerUnknown c = rw c.in-IntegerUnknown.is (c.integer.ensures c.args.f.z c.args.slots.now)
 
 pub returns-in-NumberConstant : goal.returns-in-NumberConstant
-returns-in-NumberConstant c = rw c.in-NumberConstant.is (c.constant.ensures c.args.f.z c.args.slots-1.now)
+returns-in-NumberConstant c = rw c.in-NumberConstant.is (c.constant.ensures c.args.f.z c.args.slots.now)
 
 pub returns-in-Not : goal.returns-in-Not
-returns-in-Not c = rw c.in-Not.is (c.negation.ensures c.args.slots-1.now)
+returns-in-Not c = rw c.in-Not.is (c.negation.ensures c.args.slots.now)
 
 pub returns-in-And : goal.returns-in-And
 returns-in-And c = rw c.in-And.is c.and.ensures
