@@ -21,7 +21,7 @@ pub record ReadFrom (literals : List ℤ) (model : List ℕ) (i : ℕ) (v : ℤ)
   pub value : v ≡ to_int (values model (drop i literals))
 
 abbrev pub invariant-loop-i : goal.invariant-loop-i
-invariant-loop-i l = ReadFrom l.literals l.model l.i (to_z w64 l.v)
+invariant-loop-i l = ReadFrom l.literals l.model l.i l.v
 
 abbrev pub decreases-loop-i : goal.decreases-loop-i
 decreases-loop-i l = l.i
