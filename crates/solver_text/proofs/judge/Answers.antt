@@ -1,7 +1,6 @@
 -- `solver_text::judge` meets its contract. Assumes nothing.
 use mathlib.Core.Path.{sym, ◌∙◌}
 use Rattle.solver_text.proofs.Claims.{none_alone, none_not_last, first_wrong, some_claimed}
-use borrow.Author.Rules.{rules}
 use Rattle.solver_text.proofs.judge.Goals as goal
 
 pub returns-then-behind-text : goal.returns-then-behind-text

@@ -3,7 +3,6 @@ use mathlib.Core.Path.{sym, ◌∙◌}
 use lib.ListN.{drop}
 use Rattle.sheet.specs.Texts.{signs_in}
 use Rattle.solver_text.proofs.Claims.{line_follows, line_missing, line_wrong, line_alone, line_not_last}
-use borrow.Author.Rules.{rules}
 use Rattle.solver_text.proofs.judge_model.Goals as goal
 
 pub returns-in_default : goal.returns-in_default

@@ -2,7 +2,6 @@
 use mathlib.Core.Path.{sym}
 use native.Mathlib.Omega.{arith}
 use Rattle.solver_text.proofs.Passing.{byte_missing, byte_other, byte_there}
-use borrow.Author.Rules.{rules}
 use Rattle.solver_text.proofs.pass_byte.Goals as goal
 
 pub returns-then-at-text : goal.returns-then-at-text

@@ -3,7 +3,6 @@ use mathlib.Core.Path.{sym, ◌∙◌}
 use mathlib.Core.List.{[], ◌∷◌}
 use Rattle.sheet.specs.Texts.{decimal}
 use Rattle.solver_text.proofs.Passing.{pass_then, pass_stops}
-use borrow.Author.Rules.{rules}
 use Rattle.solver_text.proofs.pass_number.Goals as goal
 
 pub returns-in_default : goal.returns-in_default

@@ -1,19 +1,13 @@
 -- `solver_text::pass_part` meets its contract. Assumes nothing.
-use mathlib.Core.Path.{◌≡◌, refl, sym, ◌∙◌}
-use mathlib.Core.List.{List, [], ◌∷◌}
-use Prim.Native.Nat.{ℕ, ◌+◌, ◌-◌, ◌≤◌, ◌<◌}
+use mathlib.Core.Path.{sym, ◌∙◌}
+use mathlib.Core.List.{[], ◌∷◌}
+use Prim.Native.Nat.{◌+◌, ◌<◌}
 use native.Mathlib.Numerals.{add-one}
 use native.Mathlib.Omega.{arith}
-use borrow.Author.Rules.{rules}
 use lib.ListN.{length, get_or, drop, drop_of_length-le}
 use lib.Seq.{drop-cons}
-use Rattle.solver_text.specs.Passing.{passing}
 use Rattle.solver_text.proofs.Passing.{pass_none, pass_then, pass_stops}
-use Rattle.solver_text.proofs.pass_part.Invariants.{Left}
 use Rattle.solver_text.proofs.pass_part.Goals as goal
-
-pub loop-i-init : goal.loop-i-init
-loop-i-init c = record { within = omega arith; left = refl }
 
 pub returns-in_default : goal.returns-in_default
 returns-in_default c =

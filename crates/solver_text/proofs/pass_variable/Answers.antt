@@ -2,7 +2,6 @@
 use mathlib.Core.Path.{sym, ◌∙◌}
 use native.Mathlib.Omega.{arith}
 use Rattle.solver_text.proofs.Variables.{minus_there, variable_minus, variable_plain}
-use borrow.Author.Rules.{rules}
 use Rattle.solver_text.proofs.pass_variable.Goals as goal
 
 pub overflow_add-at : goal.overflow_add-at

@@ -1,20 +1,11 @@
 -- `solver_text::pass_variables` meets its contract. Assumes nothing.
-use mathlib.Core.Path.{◌≡◌, refl, sym, ◌∙◌}
-use mathlib.Core.List.{List, [], ◌∷◌}
-use Prim.Native.Nat.{ℕ, ◌+◌, ◌-◌, ◌≤◌, ◌<◌}
-use native.Mathlib.Nat.{sub-zero}
+use mathlib.Core.Path.{sym, ◌∙◌}
+use Prim.Native.Nat.{◌+◌, ◌<◌}
 use native.Mathlib.Omega.{arith}
-use borrow.Author.Rules.{rules}
-use lib.ListN.{length, drop}
-use Rattle.sheet.specs.Texts.{variable_texts, signs_in}
-use Rattle.solver_text.specs.Passing.{passing}
+use lib.ListN.{length}
 use Rattle.solver_text.proofs.Passing.{passed, pass_then, pass_stops}
 use Rattle.solver_text.proofs.Variables.{variable_here, line_here, line_more, line_end}
-use Rattle.solver_text.proofs.pass_variables.Invariants.{Left}
 use Rattle.solver_text.proofs.pass_variables.Goals as goal
-
-pub loop-i-init : goal.loop-i-init
-loop-i-init c = record { within = omega arith; left = rw sub-zero }
 
 pub returns-in_default : goal.returns-in_default
 returns-in_default c =

@@ -1,15 +1,11 @@
 -- `solver_text::pass_variables` meets its contract. Assumes nothing.
-use mathlib.Core.Path.{◌≡◌, refl, sym, ◌∙◌}
-use mathlib.Core.List.{List, [], ◌∷◌}
-use Prim.Native.Nat.{ℕ, ◌+◌, ◌-◌, ◌≤◌, ◌<◌}
-use native.Mathlib.Nat.{sub-zero}
-use native.Mathlib.Omega.{arith}
-use borrow.Author.Rules.{rules}
-use lib.ListN.{length, drop}
+use mathlib.Core.Path.{◌≡◌}
+use mathlib.Core.List.{List}
+use Prim.Native.Nat.{ℕ, ◌-◌, ◌≤◌}
+use lib.ListN.{drop}
 use Rattle.sheet.specs.Texts.{variable_texts, signs_in}
 use Rattle.solver_text.specs.Passing.{passing}
-use Rattle.solver_text.proofs.Passing.{passed, pass_then, pass_stops}
-use Rattle.solver_text.proofs.Variables.{variable_here, line_here, line_more, line_end}
+use Rattle.solver_text.proofs.Variables.{line_here}
 use Rattle.solver_text.proofs.pass_variables.Given as goal
 
 -- what is left of the line decides

@@ -1,16 +1,12 @@
 -- `solver_text::put_model` meets its contract. Assumes nothing.
-use mathlib.Core.Path.{◌≡◌, refl}
+use mathlib.Core.Path.{◌≡◌}
 use mathlib.Core.Bool.{true}
 use mathlib.Core.List.{List}
-use Prim.Native.Nat.{ℕ, ◌+◌, ◌-◌, ◌≤◌, ◌<◌}
-use native.Mathlib.Nat.{sub-zero}
-use native.Mathlib.Omega.{arith}
-use borrow.Author.Rules.{rules}
-use lib.ListN.{length, drop, length-set}
+use Prim.Native.Nat.{ℕ, ◌+◌, ◌-◌, ◌≤◌}
+use lib.ListN.{length, drop}
 use Rattle.frame.specs.Frame.{front, over}
-use Rattle.frame.proofs.Frames.{over_zero, over_none, over-set}
-use Rattle.sheet.specs.Texts.{sign_at, signs_in, starts}
-use Rattle.solver_text.proofs.Variables.{variable_here, line_here, signs_more, signs_end, stands_next, stands_within}
+use Rattle.sheet.specs.Texts.{signs_in, starts}
+use Rattle.solver_text.proofs.Variables.{line_here}
 use Rattle.solver_text.proofs.put_model.Given as goal
 
 -- the signs that are left, over what is written; and the rest of the line stands there
@@ -21,7 +17,7 @@ pub record Left (model₀ text : List ℕ) (variables : ℕ) (model : List ℕ) 
   pub left : over i (signs_in (variables - i) (i + 1) (drop at text)) model ≡ front (signs_in variables 1 (drop 16 text)) model₀
 
 abbrev pub invariant-loop-i : goal.invariant-loop-i
-invariant-loop-i l = (l.count ≡ l.variables) × Left l.initial.model l.text l.variables l.model l.i l.at
+invariant-loop-i l = Left l.initial.model l.text l.variables l.model l.i l.at
 
 abbrev pub decreases-loop-i : goal.decreases-loop-i
 decreases-loop-i l = l.variables - l.i

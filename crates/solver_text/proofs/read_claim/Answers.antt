@@ -1,6 +1,5 @@
 -- `solver_text::read_claim` meets its contract. Assumes nothing.
 use Rattle.solver_text.proofs.Answers.{too_short, variables_stand, claim_refused, claim_none, claim_model}
-use borrow.Author.Rules.{rules}
 use Rattle.solver_text.proofs.read_claim.Goals as goal
 
 pub returns-then-model-needed : goal.returns-then-model-needed

@@ -2,7 +2,6 @@
 use mathlib.Core.Path.{sym}
 use native.Mathlib.Omega.{arith}
 use Rattle.solver_text.proofs.Variables.{sign_none, sign_minus, sign_other}
-use borrow.Author.Rules.{rules}
 use Rattle.solver_text.proofs.sign_at.Goals as goal
 
 pub returns-then-at-text : goal.returns-then-at-text

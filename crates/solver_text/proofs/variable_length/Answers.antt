@@ -2,7 +2,6 @@
 use native.Mathlib.Omega.{arith}
 use Rattle.sheet.proofs.Decimals.{length-decimal}
 use Rattle.solver_text.proofs.Variables.{length_minus, length_plain}
-use borrow.Author.Rules.{rules}
 use Rattle.solver_text.proofs.variable_length.Goals as goal
 
 pub overflow_add-result : goal.overflow_add-result
