@@ -1,6 +1,6 @@
 -- One turn of the adder: its circuit, at a place of the two arrays. Assumes nothing.
 use mathlib.Core.Path.{◌≡◌}
-use mathlib.Core.List.{List, [], ◌∷◌, ◌++◌}
+use mathlib.Core.List.{List, ◌∷◌, ◌++◌}
 use Prim.Native.Nat.{ℕ, suc, ◌+◌, ◌≤◌, ◌<◌}
 use native.Mathlib.Omega.{arith}
 use lib.IntN.{ℤ}
@@ -10,7 +10,7 @@ use Rattle.circuit.specs.Circuits.{gates, out}
 use Rattle.circuit.specs.Numbers.{adder}
 use Rattle.circuit.proofs.Lengths.{gates_same, out_same}
 use Rattle.frame.specs.Literals.{literal_at, between}
-use Rattle.frame.proofs.Literals.{between_cons, between_none}
+use Rattle.frame.proofs.Literals.{between_cons}
 use Rattle.adder.specs.Adding.{bit_gates}
 
 module _ (n : ℕ) (c a b : Lit) (xs ys : List Lit) where
@@ -35,11 +35,3 @@ module _ (i w : ℕ) (x y : List ℤ) (c : Lit) (n : ℕ) where
 
     pub out_at : out n (adder c (between i w x) (between i w y)) ≡ plus (n + 1) ∷ out (n + 3) (adder (plus (n + 2)) (between (i + 1) w x) (between (i + 1) w y))
     out_at = rw (between_cons i w x h hx, between_cons i w y h hy) (out_turn n c (literal_at x i) (literal_at y i) (between (i + 1) w x) (between (i + 1) w y))
-
-  -- there is none
-  module _ (h : w ≤ i) where
-    pub gates_end : gates n (adder c (between i w x) (between i w y)) ≡ []
-    gates_end = rw (between_none i w x h)
-
-    pub out_end : out n (adder c (between i w x) (between i w y)) ≡ []
-    out_end = rw (between_none i w x h)

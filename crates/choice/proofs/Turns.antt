@@ -11,7 +11,7 @@ use Rattle.circuit.specs.Circuits.{gates, out}
 use Rattle.circuit.specs.Numbers.{muxes}
 use Rattle.circuit.proofs.Lengths.{gates_same, out_same}
 use Rattle.frame.specs.Literals.{literal_at, between}
-use Rattle.frame.proofs.Literals.{between_cons, between_none}
+use Rattle.frame.proofs.Literals.{between_cons}
 
 module _ (i w : ℕ) (x y : List ℤ) (c : Lit) (n : ℕ) where
   -- there is a place left
@@ -21,11 +21,3 @@ module _ (i w : ℕ) (x y : List ℤ) (c : Lit) (n : ℕ) where
 
     pub out_at : out n (muxes c (between i w x) (between i w y)) ≡ plus n ∷ out (n + 1) (muxes c (between (i + 1) w x) (between (i + 1) w y))
     out_at = rw (between_cons i w x h hx, between_cons i w y h hy, add-one n) (out_same (suc n) (muxes c (between (i + 1) w x) (between (i + 1) w y)) (λ gs. plus n ∷ gs))
-
-  -- there is none
-  module _ (h : w ≤ i) where
-    pub gates_end : gates n (muxes c (between i w x) (between i w y)) ≡ []
-    gates_end = rw (between_none i w x h)
-
-    pub out_end : out n (muxes c (between i w x) (between i w y)) ≡ []
-    out_end = rw (between_none i w x h)

@@ -40,11 +40,3 @@ module _ (i w : ℕ) (x y : List ℤ) (n : ℕ) where
 
       pub greater_lit : (g : Lit) → out n (greater_from g (between i w x) (between i w y)) ≡ plus (n + 1)
       greater_lit g = rw (between_cons i w x h hx, between_cons i w y h hy, between_none (i + 1) w x k, add-one n)
-
-  -- there is none
-  module _ (h : w ≤ i) (c : Lit) where
-    pub equal_end : gates n (equal_from c (between i w x) (between i w y)) ≡ []
-    equal_end = rw (between_none i w x h)
-
-    pub equal_lit : out n (equal_from c (between i w x) (between i w y)) ≡ c
-    equal_lit = rw (between_none i w x h)

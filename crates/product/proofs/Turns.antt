@@ -31,17 +31,6 @@ module _ (i j w : ℕ) (x : List ℤ) (y : Lit) (n : ℕ) where
     pub ands_out : out n (ands (w - i) (between j w x) y) ≡ plus n ∷ out (n + 1) (ands (w - (i + 1)) (between (j + 1) w x) y)
     ands_out = rw (one_less, between_cons j w x k hx, add-one n) (out_same (suc n) rest (λ ls. plus n ∷ ls))
 
-  -- there is none
-  module _ (h : w ≤ i) where
-    none_left : w - i ≡ 0
-    none_left = omega arith
-
-    pub ands_end : gates n (ands (w - i) (between j w x) y) ≡ []
-    ands_end = rw none_left
-
-    pub ands_none : out n (ands (w - i) (between j w x) y) ≡ []
-    ands_none = rw none_left
-
 -- ---- a row of the product: y's bit at i + 1, and the total t from i on
 module _ (i w : ℕ) (xs : List Lit) (y t : List ℤ) (n : ℕ) where
   abbrev pub row_at : Circuit (List Lit)
@@ -72,9 +61,6 @@ module _ (i w : ℕ) (xs : List Lit) (y t : List ℤ) (n : ℕ) where
 
   -- there is none
   module _ (h : w ≤ i + 1) where
-    pub rows_end : gates n (add_rows (between (i + 1) w y) xs (between i w t)) ≡ []
-    rows_end = rw (between_none (i + 1) w y h)
-
     pub rows_none : out n (add_rows (between (i + 1) w y) xs (between i w t)) ≡ between i w t
     rows_none = rw (between_none (i + 1) w y h)
 

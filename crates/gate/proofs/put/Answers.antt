@@ -1,8 +1,7 @@
 -- `gate::put` meets its contract. Assumes nothing.
-use Prim.Native.Nat.{◌≤◌, ◌<◌}
+use Prim.Native.Nat.{◌<◌}
 use lib.IntN.{pos}
-use lib.Seq.{take_all}
-use mathlib.Core.Path.{refl, ◌∙◌}
+use mathlib.Core.Path.{refl}
 use borrow.Author.Rules.{rules}
 use native.Mathlib.Omega.{arith}
 use lib.ListN.{length, get_or, length-set}
@@ -23,9 +22,3 @@ loop-i-preserved c =
     let h : c.loop-i.i < length v = omega arith in
     let k : c.loop-i.i < length l = omega arith in
     (omega arith, simp length-set c.loop-i.invariant.1, rw (to_z-of_z f, c.loop-i.invariant.2) (front_more c.loop-i.i (pos 0) v l h k))
-
-pub returns : goal.returns
-returns c =
-    let v = c.args.v.now in
-    let h : length v ≤ c.loop-i.i = omega arith in
-    c.loop-i.invariant.2 ∙ rw (take_all c.loop-i.i v h)
