@@ -137,7 +137,7 @@ module _ {table : List ℕ} {rows : ℕ} {records : List Record} {map₀ slots�
 
     pub walking_operand : (x : ℕ) {o : Operand} → Referred map r x (get_or records (min x r) zeros) o → Is x o
     unfolding cell_or
-    walking_operand x {o} q = by (ltb x r) refl q.is_cell q.is_record
+    walking_operand x {o} q = by (ltb x r) refl q.is_cell q.is_record_lem
       where
         by : (t : Bool) → ltb x r ≡ t → cell_of o ≡ (if t then cell_in map x (get_or records (min x r) zeros) otherwise cell (falsity ∷ []) 1) → o.record ≡ (if t then get_or records (min x r) zeros otherwise missing) → Is x o
         by true k e f =
