@@ -1,16 +1,12 @@
 -- `print::put_text` meets its contract. Assumes nothing.
-use mathlib.Core.Path.{◌≡◌, refl}
+use mathlib.Core.Path.{◌≡◌}
 use Prim.Native.Nat.{◌+◌, ◌<◌}
-use native.Mathlib.Nat.{add-zero}
 use native.Mathlib.Numerals.{add-one}
 use native.Mathlib.Omega.{arith}
 use lib.ListN.{length, get_or, drop, length-set}
 use lib.Seq.{drop-cons, drop-length}
 use Rattle.frame.proofs.Frames.{over_none, over-set}
 use Rattle.print.proofs.put_text.Goals as goal
-
-pub loop-i-init : goal.loop-i-init
-loop-i-init c = record { within = omega arith; long = refl; left = rw add-zero }
 
 pub loop-i-preserved : goal.loop-i-preserved
 loop-i-preserved c =

@@ -15,10 +15,6 @@ use Rattle.row_lines.proofs.cost_lines.Goals as goal
 pub loop-r-init : goal.loop-r-init
 loop-r-init c = going_none cost_line _ _
 
-pub put_pair_line-at-requires : goal.put_pair_line-at-requires
-put_pair_line-at-requires c =
-    omega (arith, c.loop-r.invariant.short, c.loop-r.invariant.long, c.requires)
-
 pub loop-r-preserved : goal.loop-r-preserved
 unfolding pair_line
 loop-r-preserved c =

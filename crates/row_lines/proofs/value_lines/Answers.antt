@@ -20,10 +20,6 @@ use Rattle.row_lines.proofs.value_lines.Goals as goal
 pub loop-i-init : goal.loop-i-init
 loop-i-init c = going_none value_line _ _
 
-pub put_setting_line-at-requires : goal.put_setting_line-at-requires
-put_setting_line-at-requires c =
-    omega (arith, c.loop-i.invariant.short, c.loop-i.invariant.long, c.requires)
-
 pub loop-i-preserved : goal.loop-i-preserved
 unfolding setting_line
 loop-i-preserved c =
