@@ -20,48 +20,28 @@ blank = replicate 2048 0
 blank-long : length blank ≡ 2048
 blank-long = length-replicate {A = ℕ} 2048 0
 
-pub slice_bounds-read_lines-end : goal.slice_bounds-read_lines-end
-slice_bounds-read_lines-end c =
-    let u = c in
-    sym (length-take-le u.used-used.result u.args.input.now u.used-used.ensures.within)
-
 pub slice_bounds-table-end : goal.slice_bounds-table-end
 slice_bounds-table-end c =
-    let r = c in
-    let l = r in
-    let u = l in
-    let s = u in
-    let e = rw (u.used-used.ensures.answer, r.in-Read.is) at l.read_lines-read.ensures.answer in
-    let few = found_few false (input_of s.args.input.now) blank blank-long r.in-Read.found e in
-    let long : length l.read_lines-read.new.1.0 ≡ 2048 = search rules in
+    let few = found_few false (input_of c.args.input.now) blank blank-long c.in-Read.found (rw c.used-used.ensures.answer at c.in-Read.ensures.answer) in
+    let long : length c.read_lines-read.new.table ≡ 2048 = search rules in
     omega (arith, few, long)
 
 pub slice_bounds-print_costs-end : goal.slice_bounds-print_costs-end
 slice_bounds-print_costs-end c =
-    let r = c in
-    let l = r in
-    sym (length-take-le (8 * r.in-Read.found.rows) l.read_lines-read.new.1.0 (array-share-prefix-table c))
+    let few = found_few false (input_of c.args.input.now) blank blank-long c.in-Read.found (rw c.used-used.ensures.answer at c.in-Read.ensures.answer) in
+    let long : length c.read_lines-read.new.table ≡ 2048 = search rules in
+    sym (length-take-le (8 * c.in-Read.found.rows) c.read_lines-read.new.table (omega (arith, few, long)))
 
 pub returns-in-Refused : goal.returns-in-Refused
 returns-in-Refused c =
-    let d = c in
-    let r = d in
-    let l = r in
-    let u = l in
-    let s = u in
-    let line = lines_printed s.args.input.now blank blank-long (rw (u.used-used.ensures.answer, r.in-Refused.is) at l.read_lines-read.ensures.answer) in
-    let whole = piece_whole (costs_program s.args.input.now) s.args.out-1.now (omega (arith, s.requires)) in
-    rw (← line, whole) at d.refused_line.ensures
+    let line = lines_printed c.args.input.now blank blank-long (rw c.used-used.ensures.answer at c.in-Refused.ensures.answer) in
+    let whole = piece_whole (costs_program c.args.input.now) c.args.out.now (omega (arith, c.requires)) in
+    rw (← line, whole) at c.refused_line.ensures
 
 pub returns-in-Read : goal.returns-in-Read
 returns-in-Read c =
-    let d = c in
-    let r = d in
-    let l = r in
-    let u = l in
-    let s = u in
-    let input = s.args.input.now in
-    let found = r.in-Read.found in
-    let (answer, table) = rw u.used-used.ensures.answer at l.read_lines-read.ensures in
-    let e = rw r.in-Read.is at answer in
-    rw (found_table false (input_of input) blank blank-long found e table, ← found_printed input blank blank-long found e) at d.print_costs.ensures
+    let input = c.args.input.now in
+    let found = c.in-Read.found in
+    let e = rw c.used-used.ensures.answer at c.in-Read.ensures.answer in
+    let table = rw c.used-used.ensures.answer at c.in-Read.ensures.table in
+    rw (found_table false (input_of input) blank blank-long found e table, ← found_printed input blank blank-long found e) at c.print_costs.ensures
