@@ -1,9 +1,8 @@
 // The library's front door: the calls of document 01, none of which asks anything of its caller. Each call's contract is one relation of
 // crates/sheet/specs/Relations.antt; that no two outcomes meet it is stated in crates/promise/specs/Outcomes.antt, and proved.
 //
-// The calls over lent records, `check`, `write` and `decode`, are a covered core, `fill` and `answer_of`, and are proved by hand. A program
-// in Rattle needs no such proof: it takes the cores, which answer the records by value (table::check_core, write::write_core,
-// decode::decode_core), and every other call from here.
+// The calls over lent records, `check`, `write` and `decode`, are each a core that answers the records by value (table::check_core,
+// write::write_core, decode::decode_core), then `fill` and `answer_of`. A program in Rattle may take the cores, and every other call from here.
 #![tactic(auto)]
 
 ghost use Rattle.std.specs.Prelude.{◌≡◌, true, false, ◌≤◌, length, take};

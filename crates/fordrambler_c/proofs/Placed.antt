@@ -22,14 +22,6 @@ module _ (table : List ℕ) (slots : List ℤ) (row first count : ℕ) {f : Foun
       test_numbered 13 sheet.counts.slots (ltb (length slots) sheet.counts.slots) _ (omega arith)
       (test_numbered 22 (row_count sheet) (leb (row_count sheet) row) (accepted (record_at sheet.records row)) (omega arith) tt))
 
-  -- at a refusal the lent numbers stay
-  pub stays : (f.number ≡ 0 → ⊥) → PlacesRow table slots row first count f.number f.place first count
-  stays z = by (row_clauses table (length slots) row) refl e
-    where
-      by : (o : Outcome Record) → row_clauses table (length slots) row ≡ o → f ≡ as_found o → PlacesRow table slots row first count f.number f.place first count
-      by (refused n p) is g = rw g (record { first = rw is; count = rw is; says = rw is; at = rw is })
-      by (accepted r) is g = absurd (z (ap (λ (t : Found). t.number) g))
-
   pub places : f.number ≡ 0 → PlacesRow table slots row first count 0 f.place f.first f.slots
   places z = by (row_clauses table (length slots) row) refl e
     where

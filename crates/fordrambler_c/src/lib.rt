@@ -1,8 +1,6 @@
 // The library for C: each call of the front door as an exported function, which answers the refusal's number, 0 on success. include/fordrambler.h
 // declares them. A slice is two parameters of C, its pointer and its length. Each function's contract is one relation of specs/Told.antt; that
 // no two outcomes meet it is stated in specs/Outcomes.antt, and proved.
-//
-// `fordrambler_check`, `fordrambler_write` and `fordrambler_decode` lend records and are proved by hand.
 #![tactic(auto)]
 
 ghost use Rattle.std.specs.Prelude.{◌≡◌};

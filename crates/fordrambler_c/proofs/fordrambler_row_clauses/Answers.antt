@@ -1,16 +1,6 @@
--- `fordrambler_c::fordrambler_row_clauses` meets its contract. Assumes nothing.
-use borrow.Author.Rules.{rules}
-use Rattle.fordrambler_c.proofs.Placed.{stays, places}
+-- Where no number is refused, which slots are the row's is what `find` found.
+use Rattle.fordrambler_c.proofs.Placed.{places}
 use Rattle.fordrambler_c.proofs.fordrambler_row_clauses.Goals as goal
 
-pub returns-then-f-ne0 : goal.returns-then-f-ne0
-returns-then-f-ne0 c =
-    let f = c in
-    let s = f in
-    stays s.args.table.now s.args.slots.now s.args.row s.args.first.now s.args.count.now f.find-f.ensures.answer c.if-f-ne0.true
-
 pub returns : goal.returns
-returns c =
-    let f = c in
-    let s = f in
-    places s.args.table.now s.args.slots.now s.args.row s.args.first.now s.args.count.now f.find-f.ensures.answer c.if-f-ne0.false
+returns c = places c.args.table.now c.args.slots.now c.args.row c.args.first.now c.args.count.now c.find-f.ensures.answer c.if-f-ne0.false
