@@ -17,22 +17,17 @@ use Rattle.decode.proofs.put_setting.Goals.{After-setting}
 
 pub returns-then-asked_at-eq0 : goal.returns-then-asked_at-eq0
 returns-then-asked_at-eq0 c =
-    let u = c in
-    let s = u in
-    let e = bit_none _ (sym u.asked_at.ensures ∙ c.if-asked_at-eq0.true) in
-    let none = setting_none s.args.table.now s.args.r s.args.of s.args.map.now s.args.model.now e in record { values = rw none (sym (over_none s.args.n s.args.values.now)); next = rw none (omega arith) }
+    let a = c.args in
+    let none = setting_none a.table.now a.r a.of a.map.now a.model.now (bit_none _ (sym c.asked_at.ensures ∙ c.if-asked_at-eq0.true)) in
+    record { values = rw none (sym (over_none a.n a.values.now)); next = rw none (omega arith) }
 
 pub setting-requires : goal.setting-requires
-setting-requires c =
-    let s = c in
-    rw (c.places-at.ensures, rest_all (48 * s.args.r) s.args.map.now) s.requires.page
+setting-requires c = rw (c.places-at.ensures, rest_all (48 * c.args.r) c.args.map.now) c.requires.page
 
 -- ---- the row is an unknown
 module _ (c : After-setting) where
   unknown : reads_unknown (row_at c.args.table.now c.args.r) ≡ true
-  unknown =
-      let k = c in
-      bit_some _ (λ e. k.if-asked_at-eq0.false (k.asked_at.ensures ∙ e))
+  unknown = bit_some _ (λ e. c.if-asked_at-eq0.false (c.asked_at.ensures ∙ e))
 
   in-room : c.args.n < length c.args.values.now
   in-room = c.requires.fits unknown
@@ -48,9 +43,12 @@ overflow_add-result c = let h = in-room c in search rules
 
 pub returns : goal.returns
 returns c =
-    let s = c in
-    let l = s.args.values.now in
-    let n = s.args.n in
+    let a = c.args in
+    let l = a.values.now in
     let x = c.setting.result in
-    let v = rw (c.places-at.ensures, rest_all (48 * s.args.r) s.args.map.now) at c.setting.ensures in
-    let some = setting_some s.args.table.now s.args.r s.args.of s.args.map.now s.args.model.now (unknown c) in record { values = rw (kept x c.setting.type_inv, some, ← v) (sym (over_none (n + 1) (set l n x)) ∙ over-set n x [] l (in-room c)); next = rw some refl }
+    let v = rw (c.places-at.ensures, rest_all (48 * a.r) a.map.now) at c.setting.ensures in
+    let some = setting_some a.table.now a.r a.of a.map.now a.model.now (unknown c) in
+    record {
+      values = rw (kept x c.setting.type_inv, some, ← v) (sym (over_none (a.n + 1) (set l a.n x)) ∙ over-set a.n x [] l (in-room c));
+      next = rw some refl;
+    }

@@ -1,9 +1,6 @@
 -- `decode::put_settings` meets its contract. Assumes nothing.
-use Prim.Native.Nat.{◌-◌, ◌<◌}
-use native.Mathlib.Omega.{arith}
-use borrow.Author.Rules.{rules}
-use Rattle.table.proofs.Rowwise.{few_rows}
-use Rattle.decode.proofs.Putting.{Putting, putting_none, putting_end, putting_row, putting_next}
+use Prim.Native.Nat.{◌-◌}
+use Rattle.decode.proofs.Putting.{Putting}
 use Rattle.decode.proofs.put_settings.Given as goal
 
 abbrev pub invariant-loop-r : goal.invariant-loop-r
