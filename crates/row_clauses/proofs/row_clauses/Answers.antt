@@ -5,7 +5,4 @@ use Rattle.row_clauses.proofs.Answers.{gives}
 use Rattle.row_clauses.proofs.row_clauses.Goals as goal
 
 pub returns : goal.returns
-returns c =
-    let f = c in
-    let s = f in
-    rw add-sub_cancel_left (gives s.args.table.now s.args.slots.now s.args.row f.find-f.ensures.answer)
+returns c = rw add-sub_cancel_left (gives c.args.table.now c.args.slots.now c.args.row c.find-f.ensures.answer)
