@@ -8,16 +8,10 @@ use Rattle.settings_text.proofs.print_answer.Goals as goal
 
 pub returns-then-s-ne0 : goal.returns-then-s-ne0
 returns-then-s-ne0 c =
-    let d = c in
-    let n = d in
-    let f = n in
-    let s = f in
-    let line = table_printed s.args.all s.args.table.now s.args.rest.now f.fitting-s.ensures.answer n.if-s-ne0.true in
-    let whole = piece_whole (claim_text s.args.all s.args.table.now s.args.rest.now) s.args.out-1.now (omega (arith, s.requires)) in
-    rw (← line, whole) at d.refused_line.ensures
+    let line = table_printed c.args.all c.args.table.now c.args.rest.now c.fitting-s.ensures.answer c.if-s-ne0.true in
+    let whole = piece_whole (claim_text c.args.all c.args.table.now c.args.rest.now) c.args.out.now (omega (arith, c.requires)) in
+    rw (← line, whole) at c.refused_line.ensures
 
 pub print_claim-requires : goal.print_claim-requires
 print_claim-requires c =
-    let n = c in
-    let f = c in
-    let s = f in record { taken_table_variables = table_taken s.args.all s.args.table.now f.fitting-s.ensures.answer n.if-s-ne0.false; out_room = search rules }
+    record { taken_table_variables = table_taken c.args.all c.args.table.now c.fitting-s.ensures.answer c.if-s-ne0.false; out_room = search rules }

@@ -21,50 +21,34 @@ blank-long = length-replicate {A = ℕ} 10000 0
 
 pub slice_bounds-model-end : goal.slice_bounds-model-end
 slice_bounds-model-end c =
-    let r = c in
-    let s = r in
-    let long : length r.read_claim-claim.new.1.1.0 ≡ 10000 = search rules in
-    omega (arith, taken_few s.requires.taken_table_variables, long)
+    let long : length c.read_claim-claim.new.model ≡ 10000 = search rules in
+    omega (arith, taken_few c.requires.taken_table_variables, long)
 
 pub slice_bounds-print_model-end : goal.slice_bounds-print_model-end
 slice_bounds-print_model-end c =
-    let r = c in
-    let s = r in
-    sym (length-take-le s.args.variables r.read_claim-claim.new.1.1.0 (array-share-prefix-model c))
+    let long : length c.read_claim-claim.new.model ≡ 10000 = search rules in
+    sym (length-take-le c.args.variables c.read_claim-claim.new.model (omega (arith, taken_few c.requires.taken_table_variables, long)))
 
 pub print_model-requires : goal.print_model-requires
 print_model-requires c =
-    let m = c in
-    let r = m in
-    let s = r in
-    let (answer, model) = r.read_claim-claim.ensures in record { told_table_model = model_told s.args.all s.args.table.now s.args.rest.now s.requires.taken_table_variables blank blank-long (rw m.in-Model.is at answer) model; out_room = search rules }
+    let r = c.in-Model.ensures in
+    let told = model_told c.args.all c.args.table.now c.args.rest.now c.requires.taken_table_variables blank blank-long r.answer r.model in
+    record { told_table_model = told; out_room = search rules }
 
 pub returns-in-Refused : goal.returns-in-Refused
 returns-in-Refused c =
-    let d = c in
-    let m = d in
-    let r = m in
-    let s = r in
-    let line = refusal_printed s.args.all s.args.table.now s.args.rest.now s.requires.taken_table_variables blank blank-long (rw m.in-Refused.is at r.read_claim-claim.ensures.answer) in
-    let whole = piece_whole (claim_text s.args.all s.args.table.now s.args.rest.now) s.args.out-1.now (omega (arith, s.requires.out_room)) in
-    rw (← line, whole) at d.refused_line.ensures
+    let line = refusal_printed c.args.all c.args.table.now c.args.rest.now c.requires.taken_table_variables blank blank-long c.in-Refused.ensures.answer in
+    let whole = piece_whole (claim_text c.args.all c.args.table.now c.args.rest.now) c.args.out.now (omega (arith, c.requires.out_room)) in
+    rw (← line, whole) at c.refused_line.ensures
 
 pub returns-in-NoneClaimed : goal.returns-in-NoneClaimed
 returns-in-NoneClaimed c =
-    let d = c in
-    let m = d in
-    let r = m in
-    let s = r in
-    let line = none_printed s.args.all s.args.table.now s.args.rest.now s.requires.taken_table_variables blank blank-long (rw m.in-NoneClaimed.is at r.read_claim-claim.ensures.answer) in
-    let whole = piece_whole (claim_text s.args.all s.args.table.now s.args.rest.now) s.args.out-1.now (omega (arith, s.requires.out_room)) in
-    rw (← line, whole) at d.none_claimed_line.ensures
+    let line = none_printed c.args.all c.args.table.now c.args.rest.now c.requires.taken_table_variables blank blank-long c.in-NoneClaimed.ensures.answer in
+    let whole = piece_whole (claim_text c.args.all c.args.table.now c.args.rest.now) c.args.out.now (omega (arith, c.requires.out_room)) in
+    rw (← line, whole) at c.none_claimed_line.ensures
 
 pub returns-in-Model : goal.returns-in-Model
 returns-in-Model c =
-    let d = c in
-    let m = d in
-    let r = m in
-    let s = r in
-    let (answer, model) = r.read_claim-claim.ensures in
-    let text = model_printed s.args.all s.args.table.now s.args.rest.now s.requires.taken_table_variables blank blank-long (rw m.in-Model.is at answer) model in
-    rw (← text) at d.print_model.ensures
+    let r = c.in-Model.ensures in
+    let text = model_printed c.args.all c.args.table.now c.args.rest.now c.requires.taken_table_variables blank blank-long r.answer r.model in
+    rw (← text) at c.print_model.ensures

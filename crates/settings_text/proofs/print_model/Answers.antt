@@ -36,75 +36,52 @@ values-long = length-replicate {A = ℤ} 256 (pos 0)
 
 pub returns-then-decoded-ne0 : goal.returns-then-decoded-ne0
 returns-then-decoded-ne0 c =
-    let d = c in
-    let n = d in
-    let f = n in
-    let s = f in
-    let line = clause_false s.args.all s.args.table.now s.args.model.now s.requires.told_table_model map₀ slots₀ values₀ map_long slots_long values-long f.decode_core-decoded.ensures.answer n.if-decoded-ne0.true in
-    let whole = piece_whole (told_text s.args.all s.args.table.now s.args.model.now) s.args.out-1.now (omega (arith, s.requires.out_room)) in
-    rw (← line, whole) at d.refused_line.ensures
+    let line = clause_false c.args.all c.args.table.now c.args.model.now c.requires.told_table_model map₀ slots₀ values₀ map_long slots_long values-long c.decode_core-decoded.ensures.answer c.if-decoded-ne0.true in
+    let whole = piece_whole (told_text c.args.all c.args.table.now c.args.model.now) c.args.out.now (omega (arith, c.requires.out_room)) in
+    rw (← line, whole) at c.refused_line.ensures
 
 -- no clause is false: the settings stand at the front of the values
-module _ (n : Else-decoded-ne0) where
-  abbrev f : After-decode_core-decoded
-  f = n
-
-  abbrev s : Start
-  s = f
-
-  abbrev unknowns : ℕ
-  unknowns = f.decode_core-decoded.result.counts-1.unknowns
-
-  abbrev values : List ℤ
-  values = f.decode_core-decoded.last.1.1.1.1.1.0
-
-  unknowns-fit : unknowns ≤ length values
-  unknowns-fit =
-      let few = numerators_few s.args.all s.args.table.now s.args.model.now s.pre.0 map₀ slots₀ values₀ map_long slots_long values-long f.decode_core-decoded.ensures.answer n.if-decoded-ne0.left in
-      let long : length values ≡ 256 = search rules in
-      omega (arith, few, long)
-
 pub slice_bounds-values-end : goal.slice_bounds-values-end
-slice_bounds-values-end c = unknowns-fit c
+slice_bounds-values-end c =
+    let few = numerators_few c.args.all c.args.table.now c.args.model.now c.requires.told_table_model map₀ slots₀ values₀ map_long slots_long values-long c.decode_core-decoded.ensures.answer c.if-decoded-ne0.false in
+    let long : length c.decode_core-decoded.new.values ≡ 256 = search rules in
+    omega (arith, few, long)
 
 pub slice_bounds-print_values-end : goal.slice_bounds-print_values-end
 slice_bounds-print_values-end c =
-    let n = c in
-    sym (length-take-le (unknowns n) (values n) (unknowns-fit n))
+    let few = numerators_few c.args.all c.args.table.now c.args.model.now c.requires.told_table_model map₀ slots₀ values₀ map_long slots_long values-long c.decode_core-decoded.ensures.answer c.if-decoded-ne0.false in
+    let long : length c.decode_core-decoded.new.values ≡ 256 = search rules in
+    sym (length-take-le _ c.decode_core-decoded.new.values (omega (arith, few, long)))
 
 pub print_values-requires : goal.print_values-requires
 print_values-requires c =
-    let n = c in
-    let (decoded, (bounds, (map, (slots, numerators)))) = (f n).decode-core.ensures in
-    let chosen = evaluable (s n).args.all (s n).args.table.now (s n).args.model.now (s n).requires.0 map₀ slots₀ values₀ map_long slots_long values-long decoded n.if-decoded-ne0.false numerators in record { evaluable_table_rows_records_values = chosen; out_room = (s n).requires.1 }
+    let d = c.decode_core-decoded.ensures in
+    record { evaluable_table_rows_records_values = evaluable c.args.all c.args.table.now c.args.model.now c.requires.told_table_model map₀ slots₀ values₀ map_long slots_long values-long d.answer c.if-decoded-ne0.false d.values; out_room = c.requires.out_room }
 
 pub returns-then-all : goal.returns-then-all
 returns-then-all c =
-    let d = c in
-    let t = d in
-    let n = t in
-    let (decoded, (bounds, (map, (slots, numerators)))) = (f n).decode-core.ensures in
-    let text = values_printed (s n).args.all (s n).args.table.now (s n).args.model.now (s n).requires.0 map₀ slots₀ values₀ map_long slots_long values-long decoded n.if-decoded-ne0.false numerators t.if-all.true in
-    rw (← text) at d.print_values.ensures
+    let d = c.decode_core-decoded.ensures in
+    let text = values_printed c.args.all c.args.table.now c.args.model.now c.requires.told_table_model map₀ slots₀ values₀ map_long slots_long values-long d.answer c.if-decoded-ne0.false d.values c.if-all.true in
+    rw (← text) at c.print_values.ensures
 
 pub slice_bounds-values-end-2 : goal.slice_bounds-values-end-2
-slice_bounds-values-end-2 c = unknowns-fit c
+slice_bounds-values-end-2 c =
+    let few = numerators_few c.args.all c.args.table.now c.args.model.now c.requires.told_table_model map₀ slots₀ values₀ map_long slots_long values-long c.decode_core-decoded.ensures.answer c.if-decoded-ne0.false in
+    let long : length c.decode_core-decoded.new.values ≡ 256 = search rules in
+    omega (arith, few, long)
 
 pub slice_bounds-settings_page-end : goal.slice_bounds-settings_page-end
 slice_bounds-settings_page-end c =
-    let n = c in
-    sym (length-take-le (unknowns n) (values n) (unknowns-fit n))
+    let few = numerators_few c.args.all c.args.table.now c.args.model.now c.requires.told_table_model map₀ slots₀ values₀ map_long slots_long values-long c.decode_core-decoded.ensures.answer c.if-decoded-ne0.false in
+    let long : length c.decode_core-decoded.new.values ≡ 256 = search rules in
+    sym (length-take-le _ c.decode_core-decoded.new.values (omega (arith, few, long)))
 
 pub returns : goal.returns
 returns c =
-    let d = c in
-    let t = d in
-    let n = t in
-    let table = (s n).args.table.now in
-    let model = (s n).args.model.now in
-    let (decoded, (bounds, (map, (slots, numerators)))) = (f n).decode-core.ensures in
-    let vs = take (unknowns n) (values n) in
-    let short = pieces_short (s n).args.all table model (s n).requires.0 map₀ slots₀ values₀ map_long slots_long values-long vs in
-    let whole = page_whole (table_pieces table vs) (length (s n).args.out.now) (omega (arith, short, (s n).requires.1)) in
-    let text = settings_printed (s n).args.all table model (s n).requires.0 map₀ slots₀ values₀ map_long slots_long values-long decoded n.if-decoded-ne0.false numerators t.if-all.false in
-    let (answer, out) = d.settings_page-page.ensures in record { answer = rw answer (rw (whole, text)); out = rw (whole, ← text) at out }
+    let d = c.decode_core-decoded.ensures in
+    let table = c.args.table.now in
+    let vs = take c.decode_core-decoded.result.counts.unknowns c.decode_core-decoded.new.values in
+    let short = pieces_short c.args.all c.args.table.now c.args.model.now c.requires.told_table_model map₀ slots₀ values₀ map_long slots_long values-long vs in
+    let whole = page_whole (table_pieces table vs) (length c.args.out.now) (omega (arith, short, c.requires.out_room)) in
+    let text = settings_printed c.args.all c.args.table.now c.args.model.now c.requires.told_table_model map₀ slots₀ values₀ map_long slots_long values-long d.answer c.if-decoded-ne0.false d.values c.if-all.false in
+    let p = c.settings_page-page.ensures in record { answer = rw p.answer (rw (whole, text)); out = rw (whole, ← text) at p.out }

@@ -14,19 +14,14 @@ use Rattle.settings_text.proofs.print_values.Goals as goal
 abbrev blank : List ℤ
 blank = replicate 256 (pos 0)
 
-pub slice_bounds-value_lines-end : goal.slice_bounds-value_lines-end
-slice_bounds-value_lines-end c = sym (length-take-le _ _ (array-share-prefix-results c))
-
 pub value_lines-requires : goal.value_lines-requires
 value_lines-requires c =
-    let f = c in
-    let s = f in
-    let chosen = s.requires.evaluable_table_rows_records_values in
-    rw (numerators_are chosen blank f.fill.ensures) (omega (arith, numerators_many chosen, few_rows chosen.table_is), omega (arith, numerators_many chosen, few_rows chosen.table_is, s.requires.out_room))
+    let chosen = c.requires.evaluable_table_rows_records_values in
+    let many = numerators_many chosen in
+    let few = few_rows chosen.table_is in
+    rw (numerators_are chosen blank c.fill.ensures) (record { numerators_most = omega (arith, many, few); out_room = omega (arith, many, few, c.requires.out_room) })
 
 pub returns : goal.returns
 returns c =
-    let d = c in
-    let f = d in
-    let chosen = f.requires.evaluable_table_rows_records_values in
-    rw (numerators_are chosen blank f.fill.ensures, lines_over chosen) at d.value_lines.ensures
+    let chosen = c.requires.evaluable_table_rows_records_values in
+    rw (numerators_are chosen blank c.fill.ensures, lines_over chosen) at c.value_lines.ensures

@@ -24,46 +24,31 @@ blank-long = length-replicate {A = ℕ} 2048 0
 
 pub slice_bounds-table-end : goal.slice_bounds-table-end
 slice_bounds-table-end c =
-    let r = c in
-    let l = r in
-    let s = l in
-    let few = found_few true s.args.text.now blank blank-long r.in-Read.found (rw r.in-Read.is at l.read_lines_until_empty-read.ensures.answer) in
-    let long : length l.read_lines_until_empty-read.new.1.0 ≡ 2048 = search rules in
+    let few = found_few true c.args.text.now blank blank-long c.in-Read.found c.in-Read.ensures.answer in
+    let long : length c.read_lines_until_empty-read.new.table ≡ 2048 = search rules in
     omega (arith, few, long)
 
 pub slice_bounds-print_answer-end : goal.slice_bounds-print_answer-end
 slice_bounds-print_answer-end c =
-    let r = c in
-    let l = r in
-    sym (length-take-le (8 * r.in-Read.found.rows) l.read_lines_until_empty-read.new.1.0 (array-share-prefix-table c))
+    let few = found_few true c.args.text.now blank blank-long c.in-Read.found c.in-Read.ensures.answer in
+    let long : length c.read_lines_until_empty-read.new.table ≡ 2048 = search rules in
+    sym (length-take-le (8 * c.in-Read.found.rows) c.read_lines_until_empty-read.new.table (omega (arith, few, long)))
 
 pub slice_bounds-print_answer-count : goal.slice_bounds-print_answer-count
-slice_bounds-print_answer-count c =
-    let r = c in
-    let l = r in
-    let s = l in
-    behind_within s.args.all s.args.text.now blank blank-long r.in-Read.found (rw r.in-Read.is at l.read_lines_until_empty-read.ensures.answer)
+slice_bounds-print_answer-count c = behind_within c.args.all c.args.text.now blank blank-long c.in-Read.found c.in-Read.ensures.answer
 
 pub slice_bounds-print_answer-start : goal.slice_bounds-print_answer-start
-slice_bounds-print_answer-start c = sub-print-answer c
+slice_bounds-print_answer-start c = behind_within c.args.all c.args.text.now blank blank-long c.in-Read.found c.in-Read.ensures.answer
 
 pub returns-in-Refused : goal.returns-in-Refused
 returns-in-Refused c =
-    let d = c in
-    let r = d in
-    let l = r in
-    let s = l in
-    let line = lines_printed s.args.all s.args.text.now blank blank-long (rw r.in-Refused.is at l.read_lines_until_empty-read.ensures.answer) in
-    let whole = piece_whole (reply (told_by s.args.all) s.args.text.now) s.args.out-1.now (omega (arith, s.requires)) in
-    rw (← line, whole) at d.refused_line.ensures
+    let line = lines_printed c.args.all c.args.text.now blank blank-long c.in-Refused.ensures.answer in
+    let whole = piece_whole (reply (told_by c.args.all) c.args.text.now) c.args.out.now (omega (arith, c.requires)) in
+    rw (← line, whole) at c.refused_line.ensures
 
 pub returns-in-Read : goal.returns-in-Read
 returns-in-Read c =
-    let w = c in
-    let r = w in
-    let l = r in
-    let s = l in
-    let text = s.args.text.now in
-    let found = r.in-Read.found in
-    let e = rw r.in-Read.is at l.read_lines_until_empty-read.ensures.answer in
-    rw (found_table true text blank blank-long found e l.read_lines_until_empty-read.ensures.table, rest_all found.rest text, ← found_printed s.args.all text blank blank-long found e) at w.print_answer.ensures
+    let text = c.args.text.now in
+    let found = c.in-Read.found in
+    let r = c.in-Read.ensures in
+    rw (found_table true text blank blank-long found r.answer r.table, rest_all found.rest text, ← found_printed c.args.all text blank blank-long found r.answer) at c.print_answer.ensures
