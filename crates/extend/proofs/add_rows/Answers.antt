@@ -57,6 +57,11 @@ add_row-place-requires c =
     let u = (goal.at.add_row-place-requires c).After-upper-t in
     rw (is_row u, is-half u) (left_room u.loop-left.invariant.ahead (now u) (then u) (parts u))
 
+pub sum-so_far-requires : goal.sum-so_far-requires
+sum-so_far-requires c =
+    let u = (goal.at.sum-so_far-requires c).After-upper-t in
+    rw (is_row u, is-half u) (record { fits_a = half_fits u; fits_b = row_fits u })
+
 pub loop-left-preserved : goal.loop-left-preserved
 loop-left-preserved c =
     let u = (goal.at.loop-left-preserved c).After-upper-t in

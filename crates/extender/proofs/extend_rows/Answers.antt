@@ -15,7 +15,7 @@ use Rattle.arithmetic.proofs.Words.{kept}
 use Rattle.table.proofs.Rowwise.{all_bytes, few_rows, same_read, not_refused}
 use Rattle.extend.proofs.Putting.{put_long}
 use Rattle.extender.proofs.Standing.{Stands}
-use Rattle.extender.proofs.Walking.{Walking, truth_room, all_put, walking_none, walking_end, walking_long, walking_row, before, walking_stands, walking_ready, walking_place, walking_next}
+use Rattle.extender.proofs.Walking.{Walking, truth_room, all_put, walking_none, walking_end, walking_row, before, walking_stands, walking_ready, walking_place, walking_next}
 use Rattle.extender.proofs.extend_rows.Goals as goal
 use Rattle.extender.proofs.extend_rows.Goals.{After-value_at, In-Read}
 
