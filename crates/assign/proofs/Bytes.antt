@@ -1,22 +1,20 @@
 -- A literal's place in a model, and what the tests of a slot say of it. Assumes nothing.
 use mathlib.Core.Path.{◌≡◌, refl, sym, ap, ◌∙◌}
 use mathlib.Core.Bool.{true, false, not, true≢false}
-use mathlib.Core.List.{List, ◌∷◌}
-use Prim.Native.Nat.{ℕ, zero, suc, ◌+◌, ◌-◌, ◌≤◌, ◌<◌}
+use mathlib.Core.List.{List}
+use Prim.Native.Nat.{ℕ, zero, suc, ◌-◌, ◌<◌}
 use native.Mathlib.Omega.{arith}
-use native.Mathlib.Numerals.{add-one}
 use lib.Dec.{T, eqb, ltb}
 use lib.IntN.{ℤ, pos, negsuc, neg_ℤ, nat_abs}
-use lib.ListN.{length, get_or, drop, get_or-map}
-use lib.Seq.{drop-cons}
+use lib.ListN.{get_or, get_or-map}
 use lib.Signed.{lt_z, non_neg, mag}
 use mir.Syntax.{w32}
 use mir.Val.{of_z, to_z}
-use borrow.Author.Tests.{ltb-true, lt-ltb, le-ltb}
-use Rattle.sheet.specs.Calls.{assigned, false_at}
+use borrow.Author.Tests.{ltb-true}
+use Rattle.sheet.specs.Calls.{assigned}
 use Rattle.frame.specs.Literals.{IsLit}
 use Rattle.frame.proofs.Literals.{held}
-use Rattle.assign.specs.Model.{are_bits, value, LitOf, SlotOf}
+use Rattle.assign.specs.Model.{value}
 
 pub byte_at : (model : List ℕ) (i : ℕ) → get_or (assigned model) i false ≡ eqb (get_or model i 0) 1
 byte_at model i = get_or-map (λ b. eqb b 1) model i 0
@@ -50,20 +48,3 @@ is_zero x h e = sym (held x h) ∙ ap (to_z w32) e
 
 pub not_zero : (x : ℤ) → (of_z w32 x ≡ 0 → ⊥) → x ≡ pos 0 → ⊥
 not_zero x h e = h (ap (of_z w32) e)
-
--- a slot that isn't 0 is a literal
-pub slot_lit : {n : ℕ} (x : ℤ) → SlotOf n x → (x ≡ pos 0 → ⊥) → LitOf n x
-slot_lit (pos zero) h e = absurd (e refl)
-slot_lit (pos (suc i)) h e = record { lit = record { some = omega arith; fits = h.fits }; within = h.within }
-slot_lit (negsuc i) h e = record { lit = record { some = omega arith; fits = h.fits }; within = h.within }
-
--- ---- a scan for a byte that is neither 0 nor 1
-module _ (model : List ℕ) (i : ℕ) (h : i < length model) where
-  first_byte : are_bits (drop i model) ≡ ltb (get_or model i 0) 2 ∷ are_bits (drop (i + 1) model)
-  first_byte = rw (add-one, drop-cons model i 0 h)
-
-  pub found_at : 1 < get_or model i 0 → false_at i (are_bits (drop i model)) ≡ i
-  found_at k = rw (first_byte, le-ltb (get_or model i 0) 2 (omega arith))
-
-  pub passed_by : get_or model i 0 ≤ 1 → false_at i (are_bits (drop i model)) ≡ false_at (i + 1) (are_bits (drop (i + 1) model))
-  passed_by k = rw (first_byte, lt-ltb (get_or model i 0) 2 (omega arith))

@@ -1,23 +1,20 @@
 -- One literal more is read; what is read fits. Assumes nothing.
-use mathlib.Core.Path.{◌≡◌, refl, sym, ◌∙◌}
-use mathlib.Core.Bool.{Bool, true, false, true≢false, false≢true}
+use mathlib.Core.Path.{◌≡◌, refl, ◌∙◌}
+use mathlib.Core.Bool.{Bool}
 use mathlib.Core.List.{List, [], ◌∷◌}
 use Prim.Native.Nat.{ℕ, zero, suc, ◌+◌, ◌≤◌, ◌<◌}
 use native.Mathlib.Omega.{arith}
 use native.Mathlib.Numerals.{add-one}
-use lib.IntN.{ℤ, pos, neg_ℤ, ◌+ℤ◌, ◌*ℤ◌, +ℤ_idl}
+use lib.IntN.{ℤ, pos, neg_ℤ, ◌+ℤ◌, ◌*ℤ◌}
 use lib.ListN.{length, get_or, take, drop, length-map, length-drop}
 use lib.Seq.{drop-cons}
-use mir.Syntax.{w64}
-use mir.Val.{SFits}
 use Rattle.whole.specs.Bits.{bit, to_int, Fits}
 use Rattle.whole.proofs.Bits.{to_int_fits}
-use Rattle.whole.proofs.Ranges.{fits_up, sum_fits, product_fits, fewest_fits}
+use Rattle.whole.proofs.Ranges.{fits_up}
 use Rattle.circuit.specs.Literals.{falsity, lit_true}
 use Rattle.sheet.specs.Calls.{assigned}
 use Rattle.frame.specs.Literals.{unslot, literals}
 use Rattle.assign.specs.Model.{value}
-use Rattle.arithmetic.proofs.Words.{fits_word}
 use Rattle.bits.specs.Readings.{values}
 
 length_values : (model : List ℕ) (l : List ℤ) → length (values model l) ≡ length l
@@ -47,26 +44,6 @@ unfolding values value
 more_values model l i j e h =
     let d : drop i l ≡ get_or l i (pos 0) ∷ drop j l = rw (e, add-one) (drop-cons l i (pos 0) (omega arith)) in
     rw d (more_bits (value model (get_or l i (pos 0))) (values model (drop j l)) (rw (length_values model (drop j l), length-drop) (omega arith)))
-
--- twice a number of 48 bits, and a bit
-module _ {v : ℤ} (h : Fits 48 v) where
-  twice_fits : Fits 51 (pos 2 *ℤ v)
-  twice_fits = product_fits (omega arith) (omega arith) (fewest_fits (pos 2)) h
-
-  pub twice_word : SFits w64 (pos 2 *ℤ v)
-  twice_word = fits_word (omega arith) twice_fits
-
-  pub more_word : SFits w64 (pos 1 +ℤ pos 2 *ℤ v)
-  more_word = fits_word (omega arith) (sum_fits (omega arith) (omega arith) (fewest_fits (pos 1)) twice_fits)
-
--- a bit of 1, and one of 0
-pub bit_on : (b : Bool) (v : ℤ) → b ≡ true → pos 1 +ℤ pos 2 *ℤ v ≡ pos (bit b) +ℤ pos 2 *ℤ v
-bit_on true v e = refl
-bit_on false v e = absurd (false≢true e)
-
-pub bit_off : (b : Bool) (v : ℤ) → b ≡ false → pos 2 *ℤ v ≡ pos (bit b) +ℤ pos 2 *ℤ v
-bit_off true v e = absurd (true≢false e)
-bit_off false v e = sym (+ℤ_idl (pos 2 *ℤ v))
 
 -- a Boolean's literal is the first
 pub first_value : (model : List ℕ) (w : ℕ) (l : List ℤ) → 1 ≤ length (take w l)

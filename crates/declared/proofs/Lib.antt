@@ -1,2 +1,2 @@
--- Laws of powers, and that acceptance tells how many bits are declared. Assumes nothing.
+-- That acceptance tells how many bits are declared. Assumes nothing.
 pub mod Limits

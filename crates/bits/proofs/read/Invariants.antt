@@ -1,18 +1,11 @@
 -- `bits::read` meets its contract. Assumes nothing.
-use mathlib.Core.Path.{◌≡◌, sym}
+use mathlib.Core.Path.{◌≡◌}
 use mathlib.Core.List.{List}
 use Prim.Native.Nat.{ℕ, ◌-◌, ◌<◌}
-use native.Mathlib.Omega.{arith}
-use borrow.Author.Rules.{rules}
-use lib.IntN.{ℤ, pos}
-use lib.ListN.{length, get_or, drop, length-drop}
-use mir.Syntax.{w64}
-use mir.Val.{to_z}
+use lib.IntN.{ℤ}
+use lib.ListN.{length, drop}
 use Rattle.whole.specs.Bits.{to_int}
-use Rattle.frame.proofs.Literals.{held}
-use Rattle.arithmetic.proofs.Words.{kept}
 use Rattle.bits.specs.Readings.{values}
-use Rattle.bits.proofs.Reading.{values_fit, last_value, more_values}
 use Rattle.bits.proofs.read.Given as goal
 
 -- the literals from i on are read

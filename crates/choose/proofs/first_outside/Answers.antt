@@ -1,16 +1,11 @@
 -- `choose::first_outside` meets its contract. Assumes nothing.
 use mathlib.Core.Path.{◌≡◌, sym, ◌∙◌}
-use mathlib.Core.List.{List}
-use Prim.Native.Nat.{ℕ, ◌+◌, ◌*◌, ◌≤◌, ◌<◌}
 use native.Mathlib.Omega.{arith}
-use borrow.Author.Tests.{not-true, not-false}
-use lib.IntN.{ℤ}
-use lib.ListN.{length}
 use Rattle.sheet.specs.Rows.{uses}
 use Rattle.arithmetic.proofs.Words.{kept}
 use Rattle.declared.proofs.Limits.{declared}
 use Rattle.table.proofs.Rowwise.{all_bytes, same_read, not_refused}
-use Rattle.choose.proofs.Outside.{Looking, looking_none, looking_end, looking_row, looking_stop, looking_next}
+use Rattle.choose.proofs.Outside.{looking_none, looking_row, looking_stop, looking_next}
 use Rattle.choose.proofs.first_outside.Goals as goal
 use Rattle.choose.proofs.first_outside.Goals.{In-Read}
 

@@ -1,6 +1,6 @@
 -- `evaluate::fill` meets its contract. Assumes nothing.
 use mathlib.Core.Path.{◌≡◌, sym, ◌∙◌}
-use Prim.Native.Nat.{ℕ, ◌+◌, ◌*◌, ◌≤◌, ◌<◌}
+use Prim.Native.Nat.{ℕ, ◌<◌}
 use native.Mathlib.Omega.{arith}
 use borrow.Author.Rules.{rules}
 use lib.IntN.{pos}
@@ -12,7 +12,7 @@ use Rattle.arithmetic.proofs.Words.{kept}
 use Rattle.row_value.specs.declared.Operand.{Operand}
 use Rattle.row_value.proofs.Accepting.{OperandAt}
 use Rattle.table.proofs.Rowwise.{all_bytes, same_read, not_refused}
-use Rattle.evaluate.proofs.Filling.{Filling, filling_none, filling_end, filling_row, filling_operand, filling_ready, filling_next}
+use Rattle.evaluate.proofs.Filling.{filling_none, filling_row, filling_operand, filling_ready, filling_next}
 use Rattle.evaluate.proofs.fill.Goals as goal
 use Rattle.evaluate.proofs.fill.Goals.{In-Read, After-value_at-v}
 

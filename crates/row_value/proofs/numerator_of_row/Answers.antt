@@ -1,5 +1,4 @@
 -- `row_value::numerator_of_row` meets its contract. Assumes nothing.
-use borrow.Author.Rules.{rules}
 use mir.Facts.{to_z-of_z}
 use Rattle.arithmetic.proofs.Words.{kept}
 use Rattle.row_value.specs.Operands.{row_over}
