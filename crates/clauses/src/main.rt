@@ -2,34 +2,44 @@
 // line of a refusal. All between reading and writing is `clause_text`.
 #![tactic(auto)]
 
-ghost use Rattle.std.specs.Prelude.{◌≡◌, length};
+ghost use Rattle.std.specs.Prelude.{◌≡◌, length, OnOk};
+ghost use Rattle.std.specs.Io.KnownBytes.{Appends, Keeps};
 ghost use Rattle.sheet.specs.Programs.{clause_program};
 ghost use Rattle.standard_input.specs.Reads.{bytes, IsWhole};
 
 use standard_input::Progress;
+use std::io;
+use std::io::Write;
 
 // Writes the answer to what was read: nothing but the paper's can be handed to it, and only of a whole input.
-fn write_answer(read: Progress, input: &[u8], answer: &[u8])
+fn write_answer<W: Write>(to: &mut W, read: Progress, input: &[u8], answer: &[u8]) -> io::Result<()>
     requires { (IsWhole read input.now) × (answer.now ≡ clause_program input.now) }
+    ensures { OnOk result (Appends (W.contents to.old) (W.contents to.new) answer.now) }
 {
-    io::write_all(1, answer);
+    to.write_all(answer)
 }
 
 // Where a read failed, nothing at all is written: a part of a sheet is no sheet.
-fn answer(read: Progress, input: &[u8])
+fn answer<W: Write>(to: &mut W, read: Progress, input: &[u8]) -> io::Result<()>
     requires { bytes read ≡ length input.now }
+    ensures whole { OnOk result (IsWhole read input.now
+        → Appends (W.contents to.old) (W.contents to.new) (clause_program input.now)) }
+    ensures failed { read ≡ Progress.Failed → Keeps (W.contents to.old) (W.contents to.new) }
 {
     if let Progress::Whole(_) = read {
         let mut out = [0u8; 360576];
         let size = clause_text::clause_text(input, &mut out);
-        write_answer(read, input, &out[..size]);
+        write_answer(to, read, input, &out[..size])?;
     }
+    Ok(())
 }
 
 // At most 65,536 bytes are read, to the end of the input, however small the pieces are that it comes in.
-fn main() {
-    let mut buf = io::large_buffer();
-    let read = standard_input::read_whole(0, &mut buf);
+fn main(rt: HostRuntime) {
+    let mut buf = [0u8; 65536];
+    let mut input = rt.stdin();
+    let read = standard_input::read_whole(&mut input, &mut buf);
     let n = standard_input::size(read, &buf);
-    answer(read, &buf[..n]);
+    let mut output = rt.stdout();
+    let _ = answer(&mut output, read, &buf[..n]);
 }

@@ -12,17 +12,17 @@ abbrev blank : List ℕ
 blank = replicate 16448 0
 
 pub slice_bounds-out-end : goal.slice_bounds-out-end
-slice_bounds-out-end c =
-    let (answer, out) = c.cost_text-size.ensures in
-    printed_within _ blank answer out
+slice_bounds-out-end g c = let s = c.cost_text-size.ensures in printed_within _ blank s.answer s.out
 
 pub slice_bounds-write_answer-end : goal.slice_bounds-write_answer-end
-slice_bounds-write_answer-end c =
-    let (answer, out) = c.cost_text-size.ensures in
-    printed_long _ blank answer out
+slice_bounds-write_answer-end g c = let s = c.cost_text-size.ensures in printed_long _ blank s.answer s.out
 
 pub write_answer-requires : goal.write_answer-requires
-write_answer-requires c =
-    let (answer, out) = c.cost_text-size.ensures in
-    let s = c in
-    (whole_input s.args.input.now s.requires c.in-Whole.is, printed_part _ blank answer out)
+write_answer-requires g c = let s = c.cost_text-size.ensures in (whole_input c.args.input.now c.requires c.in-Whole.is, printed_part _ blank s.answer s.out)
+
+pub returns-in_ok-write_answer : goal.returns-in_ok-write_answer
+returns-in_ok-write_answer g c =
+    let s = c.cost_text-size.ensures in
+    let w = c.in-Whole.is in
+    let written = rw (printed_part _ blank s.answer s.out) at c.in_ok-write_answer.ensures in
+    record { whole = λ _. written; failed = λ e. cc (e, w) }
