@@ -5,7 +5,7 @@ use borrow.Rule.Slice.PartMut.{put_mid, post_of, take_put}
 use lib.Dec.{eqb}
 use lib.Seq.{take-append-add, take-append-le}
 use lib.Signed.{lt_z}
-use Rattle.core.specs.declared.option.Option.{Option}
+use Rattle.std.specs.declared.option.Option.{Option}
 use Rattle.std.specs.Io.{ReadsAtMost}
 use Rattle.std.specs.Io.KnownBytes.{Consumes, Keeps, IsAtEnd, ReadConsumes}
 use Rattle.std.proofs.KnownBytes.{Consumes-trans, Consumes-kept}

@@ -1,7 +1,7 @@
 -- What reads come to, one after the other, by what each of them answered. Assumes nothing.
 use Rattle.std.specs.Prelude.{◌≡◌, Bool, true, false, List, [], ◌∷◌, ◌++◌, ℕ, ◌+◌, ◌-◌, ◌<◌, ◌≤◌, ⊤, eqb, length, take, ℤ, pos, negsuc, nat_abs}
 use Rattle.std.specs.Int.Signed.{lt_z}
-use Rattle.core.specs.declared.option.Option.{Option}
+use Rattle.std.specs.declared.option.Option.{Option}
 use Rattle.std.specs.Io.KnownBytes.{Consumes, IsAtEnd}
 use Rattle.whole.specs.Tests.{if◌then◌otherwise◌, eq_z}
 use Rattle.standard_input.specs.declared.Progress.{Progress}
