@@ -4,35 +4,37 @@
 #![tactic(auto)]
 
 use sheet::{Answer, Extended, Measured, Record};
+use std::io;
 
-fn write_refusal(words: &[u8], number: u32, place: usize) {
-    io::write_all(1, words);
-    io::write_all(1, b" refused ");
-    io::print_decimal(1, number as u64);
-    io::write_all(1, b" ");
-    io::print_decimal(1, place as u64);
-    io::write_all(1, b"\n");
+fn write_refusal(rt: &impl Print, words: &[u8], number: u32, place: usize) -> io::Result<()> {
+    rt.write_all(words)?;
+    rt.write_all(b" refused ")?;
+    rt.print(number)?;
+    rt.write_all(b" ")?;
+    rt.print(place)?;
+    rt.write_all(b"\n")
 }
 
 // A number in decimal with the byte `mark` behind it, by way of a buffer.
-fn write_by(out: &mut [u8], n: i64, mark: u8) {
+fn write_by(rt: &impl Print, out: &mut [u8], n: i64, mark: u8) -> io::Result<()> {
     if out.len() < 22 {
-        return;
+        return Ok(());
     }
     let size = print::put_signed(out, 0, n, mark);
     if size <= out.len() {
-        io::write_all(1, &out[..size]);
+        rt.write_all(&out[..size])?;
     }
+    Ok(())
 }
 
-fn write_number(n: i64, mark: u8) {
+fn write_number(rt: &impl Print, n: i64, mark: u8) -> io::Result<()> {
     let mut out = [0; 32];
-    write_by(&mut out, n, mark);
+    write_by(rt, &mut out, n, mark)
 }
 
 // A denominator, likewise.
-fn write_denominator(d: u32, mark: u8) {
-    write_number(d as i64, mark);
+fn write_denominator(rt: &impl Print, d: u32, mark: u8) -> io::Result<()> {
+    write_number(rt, d as i64, mark)
 }
 
 // A line feed stands behind the last number of a line, a space behind each before.
@@ -41,145 +43,159 @@ fn mark_of(last: bool) -> u8 {
 }
 
 // The first n of these numbers.
-fn write_numbers(words: &[u8], numbers: &[i64], n: usize) {
-    io::write_all(1, words);
+fn write_numbers(rt: &impl Print, words: &[u8], numbers: &[i64], n: usize) -> io::Result<()> {
+    rt.write_all(words)?;
     let mut i = 0;
     while i < n {
         if i >= numbers.len() {
-            return;
+            return Ok(());
         }
         let x = numbers[i];
         i += 1;
-        write_number(x, mark_of(i == n));
+        write_number(rt, x, mark_of(i == n))?;
     }
+    Ok(())
 }
 
-fn write_denominators(records: [Record; 256], rows: usize) {
-    io::write_all(1, b"denominators ");
+fn write_denominators(rt: &impl Print, records: [Record; 256], rows: usize) -> io::Result<()> {
+    rt.write_all(b"denominators ")?;
     let mut r = 0;
     while r < rows {
         if r >= 256 {
-            return;
+            return Ok(());
         }
         let d = records[r].denominator;
         r += 1;
-        write_denominator(d, mark_of(r == rows));
+        write_denominator(rt, d, mark_of(r == rows))?;
     }
+    Ok(())
 }
 
 // Every row's numerator and denominator at these values.
-fn show_rows(table: &[u8], values: &[i64]) {
+fn show_rows(rt: &impl Print, table: &[u8], values: &[i64]) -> io::Result<()> {
     let mut results = [7; 8];
     let a = evaluate::evaluate(table, values, &mut results);
     match a {
-        Answer::Done => write_numbers(b"numerators ", &results, table.len() / 8),
-        Answer::Refused(n, p) => write_refusal(b"evaluated", n, p),
+        Answer::Done => write_numbers(rt, b"numerators ", &results, table.len() / 8)?,
+        Answer::Refused(n, p) => write_refusal(rt, b"evaluated", n, p)?,
     }
     let s = table::check_core(table, 256);
     let records = s.records;
-    write_denominators(records, s.rows);
+    write_denominators(rt, records, s.rows)
 }
 
 // What a model decodes to.
-fn show_settings(table: &[u8], model: &[u8], unknowns: usize) {
+fn show_settings(rt: &impl Print, table: &[u8], model: &[u8], unknowns: usize) -> io::Result<()> {
     let mut map = [7; 384];
     let mut slots = [7; 16384];
     let mut settings = [7; 2];
     let s = decode::decode_core(table, 256, &mut map, &mut slots, model, &mut settings);
     if s.number != 0 {
-        write_refusal(b"decoded", s.number, s.place);
-        return;
+        write_refusal(rt, b"decoded", s.number, s.place)?;
+        return Ok(());
     }
-    write_numbers(b"settings ", &settings, unknowns);
+    write_numbers(rt, b"settings ", &settings, unknowns)
 }
 
 // Whether the constraint is true of the values, and what their model decodes to.
-fn show_model(table: &[u8], values: &[i64], model: &mut [u8]) {
+fn show_model(rt: &impl Print, table: &[u8], values: &[i64], model: &mut [u8]) -> io::Result<()> {
     let e = extender::extend(table, values, model);
     match e {
-        Extended::Constraint(b) => write_truth(b),
-        Extended::Refused(n, p) => write_refusal(b"extended", n, p),
+        Extended::Constraint(b) => write_truth(rt, b)?,
+        Extended::Refused(n, p) => write_refusal(rt, b"extended", n, p)?,
     }
-    show_settings(table, model, values.len());
+    show_settings(rt, table, model, values.len())
 }
 
-fn write_truth(b: bool) {
+fn write_truth(rt: &impl Print, b: bool) -> io::Result<()> {
     if b {
-        io::write_all(1, b"true\n");
-        return;
+        rt.write_all(b"true\n")?;
+        return Ok(());
     }
-    io::write_all(1, b"false\n");
+    rt.write_all(b"false\n")
 }
 
 // A byte for each variable that measuring counts.
-fn show(name: &[u8], table: &[u8], values: &[i64]) {
-    io::write_all(1, name);
-    show_rows(table, values);
+fn show(rt: &impl Print, name: &[u8], table: &[u8], values: &[i64]) -> io::Result<()> {
+    rt.write_all(name)?;
+    show_rows(rt, table, values)?;
     let m = table::measure(table);
     let Measured::Counted(counts) = m else {
-        return;
+        return Ok(());
     };
     let n = counts.variables as usize;
     let mut model = [7; 4096];
     if n <= 4096 {
-        show_model(table, values, &mut model[..n]);
+        show_model(rt, table, values, &mut model[..n])?;
     }
+    Ok(())
 }
 
 // Sums and a difference, brought to one denominator.
-fn show_sums() {
+fn show_sums(rt: &impl Print) -> io::Result<()> {
     show(
+        rt,
         b"3/2 + -1/4 is 5/4\n",
         b"\x03\x03\0\0\0\0\0\x02\x03\x01\0\0\0\0\0\x04\x20\0\0\0\0\x01\0\0\x04\0\0\0\0\x05\0\x04\x31\0\0\x02\0\x03\0\0",
         &[3, -1],
-    );
+    )?;
     show(
+        rt,
         b"((1/2 times 4/2) times 3/2) + 1/2 is 16/8\n",
         b"\x03\x02\0\0\0\0\0\x02\x04\0\0\0\0\x04\0\x02\x04\0\0\0\0\x03\0\x02\x22\0\0\0\0\x01\0\0\x22\0\0\x03\0\x02\0\0\x20\0\0\x04\0\0\0\0\x04\0\0\0\0\x10\0\x08\x31\0\0\x05\0\x06\0\0",
         &[1],
-    );
+    )?;
     show(
+        rt,
         b"0 - (-4) is 4\n",
         b"\x03\x01\0\0\0\0\0\x01\x03\x03\0\0\0\0\0\x01\x21\0\0\0\0\x01\0\0\x04\0\0\0\0\x04\0\x01\x31\0\0\x02\0\x03\0\0",
         &[0, -4],
-    );
+    )?;
+    Ok(())
 }
 
 // Products of the least numbers of their widths.
-fn show_products() {
+fn show_products(rt: &impl Print) -> io::Result<()> {
     show(
+        rt,
         b"-8 times -8 is 64\n",
         b"\x03\x04\0\0\0\0\0\x01\x22\0\0\0\0\0\0\0\x04\0\0\0\0\x40\0\x01\x31\0\0\x01\0\x02\0\0",
         &[-8],
-    );
+    )?;
     show(
+        rt,
         b"1-bit integers, -1 times -1 is 1\n",
         b"\x03\x01\0\0\0\0\0\x01\x03\x01\0\0\0\0\0\x01\x22\0\0\0\0\x01\0\0\x04\0\0\0\0\x01\0\x01\x31\0\0\x02\0\x03\0\0",
         &[-1, -1],
-    );
+    )?;
+    Ok(())
 }
 
 // Comparisons of unknowns, one of them false: then the model makes the last clause false.
-fn show_comparisons() {
+fn show_comparisons(rt: &impl Print) -> io::Result<()> {
     show(
+        rt,
         b"1/2 is 2/4\n",
         b"\x03\x02\0\0\0\0\0\x02\x02\x02\0\0\0\0\0\x04\x31\0\0\0\0\x01\0\0",
         &[1, 2],
-    );
+    )?;
     show(
+        rt,
         b"1/2 is 3/4\n",
         b"\x03\x02\0\0\0\0\0\x02\x02\x02\0\0\0\0\0\x04\x31\0\0\0\0\x01\0\0",
         &[1, 3],
-    );
+    )?;
     show(
+        rt,
         b"a 2-bit natural above 2\n",
         b"\x02\x02\0\0\0\0\0\x01\x04\0\0\0\0\x02\0\x01\x30\0\0\0\0\x01\0\0",
         &[3],
-    );
+    )?;
+    Ok(())
 }
 
-fn main() {
-    show_sums();
-    show_products();
-    show_comparisons();
+fn main(rt: HostRuntime) -> io::Result<()> {
+    show_sums(&rt)?;
+    show_products(&rt)?;
+    show_comparisons(&rt)
 }

@@ -5,18 +5,13 @@ use borrow.Author.Rules.{rules}
 use lib.ListN.{replicate}
 use Rattle.program.proofs.Printed.{printed_within, printed_long}
 use Rattle.check_clauses.proofs.show.Goals as goal
-use Rattle.check_clauses.proofs.show.Goals.{GONE-slice-aggregate-write-all-2}
 
 -- the output's buffer as it is lent
 abbrev blank : List ℕ
 blank = replicate 360576 0
 
 pub slice_bounds-out-end : goal.slice_bounds-out-end
-slice_bounds-out-end c =
-    let (answer, out) = c.clause_text-size.ensures in
-    printed_within _ blank answer out
+slice_bounds-out-end g c = let s = c.clause_text-size.ensures in printed_within _ blank s.answer s.out
 
-pub GONE-slice-aggregate-write-all-2 : GONE-slice-aggregate-write-all-2
-GONE-slice-aggregate-write-all-2 c =
-    let (answer, out) = c.clause_text-size.ensures in
-    printed_long _ blank answer out
+pub slice_bounds-write_all-end-2 : goal.slice_bounds-write_all-end-2
+slice_bounds-write_all-end-2 g c = let s = c.clause_text-size.ensures in printed_long _ blank s.answer s.out

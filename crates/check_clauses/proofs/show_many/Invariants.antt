@@ -8,7 +8,7 @@ use lib.Seq.{length-take-le}
 use Rattle.check_clauses.proofs.show_many.Given as goal
 
 abbrev pub invariant-loop-at : goal.invariant-loop-at
-invariant-loop-at l = length text ≡ 4369
+invariant-loop-at g l = length l.text ≡ 4369
 
 abbrev pub decreases-loop-at : goal.decreases-loop-at
-decreases-loop-at l = 4369 - at
+decreases-loop-at g l = 4369 - l.at

@@ -5,7 +5,7 @@ use borrow.Author.Rules.{rules}
 use Rattle.value_examples.proofs.write_denominators.Given as goal
 
 abbrev pub invariant-loop-r : goal.invariant-loop-r
-invariant-loop-r l = Unit {0}
+invariant-loop-r g l = Unit {0}
 
 abbrev pub decreases-loop-r : goal.decreases-loop-r
-decreases-loop-r l = l.rows - l.r
+decreases-loop-r g l = l.rows - l.r

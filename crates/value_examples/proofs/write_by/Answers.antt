@@ -1,8 +1,0 @@
--- `value_examples::write_by` is safe and ends. Assumes nothing.
-use mathlib.Core.Path.{sym}
-use borrow.Author.Rules.{rules}
-use lib.Seq.{length-take-le}
-use Rattle.value_examples.proofs.write_by.Goals as goal
-
-pub slice_bounds-write_all-end-then-size-out : goal.slice_bounds-write_all-end-then-size-out
-slice_bounds-write_all-end-then-size-out c = sym (length-take-le _ _ (search rules))
