@@ -2,9 +2,10 @@
 // of a refusal. All between reading and writing is `cost_text`.
 #![tactic(auto)]
 
-ghost use Rattle.std.specs.Prelude.{◌≡◌, length, OnOk};
+ghost use Rattle.std.specs.Prelude.{◌≡◌, length, OnOk, OnErr};
 ghost use Rattle.std.specs.Io.KnownBytes.{Appends, Keeps};
 ghost use Rattle.sheet.specs.Programs.{costs_program};
+ghost use Rattle.standard_output.specs.Writes.{AppendsPart};
 ghost use Rattle.standard_input.specs.Reads.{bytes, IsWhole};
 
 use standard_input::Progress;
@@ -14,22 +15,23 @@ use std::io::Write;
 // Writes the answer to what was read: nothing but the paper's can be handed to it, and only of a whole input.
 fn write_answer<W: Write>(to: &mut W, read: Progress, input: &[u8], answer: &[u8]) -> io::Result<()>
     requires { (IsWhole read input.now) × (answer.now ≡ costs_program input.now) }
-    ensures { OnOk result (Appends (W.contents to.old) (W.contents to.new) answer.now) }
+    ensures whole { OnOk result (Appends (W.contents to.old) (W.contents to.new) answer.now) }
+    ensures part { OnErr result (AppendsPart (W.contents to.old) (W.contents to.new) answer.now) }
 {
-    to.write_all(answer)
+    standard_output::write_whole(to, answer)
 }
 
 // Where a read failed, nothing at all is written: a part of a sheet is no sheet.
 fn answer<W: Write>(to: &mut W, read: Progress, input: &[u8]) -> io::Result<()>
     requires { bytes read ≡ length input.now }
-    ensures whole { OnOk result (IsWhole read input.now
-        → Appends (W.contents to.old) (W.contents to.new) (costs_program input.now)) }
+    ensures whole { IsWhole read input.now → OnOk result (Appends (W.contents to.old) (W.contents to.new) (costs_program input.now)) }
+    ensures part { OnErr result (AppendsPart (W.contents to.old) (W.contents to.new) (costs_program input.now)) }
     ensures failed { read ≡ Progress.Failed → Keeps (W.contents to.old) (W.contents to.new) }
 {
     if let Progress::Whole(_) = read {
         let mut out = [0u8; 16448];
         let size = cost_text::cost_text(input, &mut out);
-        write_answer(to, read, input, &out[..size])?;
+        return write_answer(to, read, input, &out[..size]);
     }
     Ok(())
 }

@@ -58,15 +58,19 @@ fn got_of(answer: &io::Result<usize>, lent: &[u8]) -> isize
     }
 }
 
-// The number of a failed read's error: 4 (EINTR) exactly if it was interrupted, and else 5 (EIO); 0 where none failed.
+// The number of a failed read's error: 4 (EINTR) exactly if it was interrupted, 11 (EAGAIN) if its bytes are still to come, and else 5 (EIO);
+// 0 where none failed.
 fn error_of(answer: &io::Result<usize>) -> i32
     ensures { IfErr answer.now (λ e. result ≡ pos 4 ↔ error_kind e ≡ ErrorKind.Interrupted) }
 {
     match answer {
         Ok(_) => 0,
         Err(e) => {
-            if e.kind() == ErrorKind::Interrupted {
+            let kind = e.kind();
+            if kind == ErrorKind::Interrupted {
                 4
+            } else if kind == ErrorKind::WouldBlock {
+                11
             } else {
                 5
             }

@@ -20,9 +20,10 @@ slice_bounds-write_answer-end g c = let s = c.settings_text-size.ensures in prin
 pub write_answer-requires : goal.write_answer-requires
 write_answer-requires g c = let s = c.settings_text-size.ensures in (whole_input c.args.input.now c.requires c.in-Whole.is, printed_part _ blank s.answer s.out)
 
-pub returns-in_ok-write_answer : goal.returns-in_ok-write_answer
-returns-in_ok-write_answer g c =
+pub returns-in-Whole : goal.returns-in-Whole
+returns-in-Whole g c =
     let s = c.settings_text-size.ensures in
     let w = c.in-Whole.is in
-    let written = rw (printed_part _ blank s.answer s.out) at c.in_ok-write_answer.ensures in
-    record { whole = λ _. written; failed = λ e. cc (e, w) }
+    let written = rw (printed_part _ blank s.answer s.out) at c.write_answer.ensures.whole in
+    let part = rw (printed_part _ blank s.answer s.out) at c.write_answer.ensures.part in
+    record { whole = λ _. written; part = part; failed = λ e. cc (e, w) }
