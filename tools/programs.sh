@@ -8,19 +8,21 @@ built() {
     done
 }
 
-# Tells the sources and the programs that are here from any others.
-fingerprint() {
+# Tells the sources and the files made of them from any others.
+fingerprint() { # FILE...
     (
         cd "$root" || exit
         {
             find crates crates.txt -name out -prune -o -type f -print0 | sort -z | xargs -0 sha256sum
-            cd target/bin && sha256sum "${programs[@]}"
+            sha256sum "$@"
         } 2>/dev/null | sha256sum
     )
 }
 
+fingerprint_programs() { fingerprint "${programs[@]/#/target/bin/}"; }
+
 # Whether the programs are here, and are what tools/build last made of these sources.
-up_to_date() { built && [ "$(cat "$root/target/solve.built" 2>/dev/null)" = "$(fingerprint)" ]; }
+up_to_date() { built && [ "$(cat "$root/target/solve.built" 2>/dev/null)" = "$(fingerprint_programs)" ]; }
 
 # Says how it is known that programs which are not up to date are of other sources: by what was noted when they were built, else by the
 # files' times. Says nothing if it is not known.
@@ -31,7 +33,7 @@ changed() {
         return
     fi
     for name in "${programs[@]}"; do
-        [ -z "$(find "$root/crates" "$root/crates.txt" -name out -prune -o -type f -newer "$root/target/bin/$name" -print -quit)" ] || {
+        [ -z "$(find "$root"/crates/*/* "$root/crates.txt" -name out -prune -o -newer "$root/target/bin/$name" -print -quit)" ] || {
             echo "the sources are younger than the programs"
             return
         }
@@ -73,7 +75,7 @@ build() {
         { grep --line-buffered '^rt: ' | grep --line-buffered -v 'unchanged since' >&2; cat >/dev/null; }
     [ "${PIPESTATUS[0]}" -eq 0 ] || stop 3 "the programs could not be built; $log says why"
     built || stop 3 "rt has built no programs; $log says what it did"
-    fingerprint >"$root/target/solve.built"
+    fingerprint_programs >"$root/target/solve.built"
 }
 
 # Sets `clauses`, `settings`, `values` and `costs` to the words that run the programs.
