@@ -1,4 +1,4 @@
--- The laws that the proofs share, and what refusal 19 comes to. Assumes nothing.
+-- The laws that the proofs share, and what refusals 17 and 19 come to. Assumes nothing.
 pub mod Bytes
 pub mod Scanning
 pub mod Refusal

@@ -1,36 +1,31 @@
--- A scan of slots: where it stands, what is left of the slots answers for the whole. Assumes nothing.
-use mathlib.Core.Path.{◌≡◌, refl, ap, ◌∙◌}
-use mathlib.Core.Bool.{Bool, true, false, ◌||◌}
-use mathlib.Core.List.{List, [], ◌∷◌, map}
-use Prim.Native.Nat.{ℕ, zero, suc, ◌+◌, ◌≤◌, ◌<◌}
-use native.Mathlib.Omega.{arith}
-use native.Mathlib.Numerals.{add-one}
-use lib.IntN.{ℤ, pos, negsuc}
-use lib.ListN.{length, get_or, drop}
-use lib.Seq.{drop-cons}
+-- Scans: the first byte that is no bit; the first clause that is false, where what is left of the slots answers for the whole. Assumes nothing.
+use Rattle.std.proofs.Common.{◌≡◌, refl, sym, ap, ◌∙◌, Bool, true, false, not, ◌||◌, List, [], ◌∷◌, map, ℕ, zero, suc, ◌+◌, ◌<◌, cond, Option, Some, None, length, get_or, drop, ℤ, pos, negsuc, arith, add-one, zero-add, drop-cons}
+use Rattle.std.specs.List.{position, position_or_len}
+use Rattle.std.proofs.lemmas.Bool.Decides.{nat_tests}
+use lib.Dec.{ltb}
+use mir.Facts.{to_z-of_z}
 use Rattle.whole.specs.Tests.{if◌then◌otherwise◌}
 use Rattle.circuit.specs.Literals.{Lit, plus, minus, Clause, Assignment, lit_true, clause_true}
-use Rattle.sheet.specs.Values.{every}
-use Rattle.sheet.specs.Calls.{false_at, assigned}
-use Rattle.assign.specs.declared.Turn.{Turn}
-use Rattle.assign.specs.declared.Turn.TheVariants.{On, False}
-use Rattle.assign.specs.Model.{value}
-use Rattle.assign.specs.Clauses.{onto, clauses_in, turned}
+use Rattle.sheet.specs.Calls.{assigned}
+use Rattle.assign.specs.Model.{are_bits, value}
+use Rattle.assign.specs.Clauses.{onto, clauses_in, first_false_from}
+
+not_bit_from : (n : ℕ) (l : List ℕ)
+    → cond (ltb (position_or_len (λ b. ltb 1 b) l) (length l)) (Some (n + position_or_len (λ b. ltb 1 b) l)) None ≡ first_false_from n (are_bits l)
+not_bit_from n [] = refl
+not_bit_from n (b ∷ l) = grind (arith, nat_tests, not_bit_from (n + 1) l)
+
+pub first_not_bit : (l : List ℕ) → position (λ b. ltb 1 b) l ≡ first_false_from 0 (are_bits l)
+first_not_bit l = simp zero-add at (not_bit_from 0 l)
 
 -- the first false clause, where the first has the number n, and t says whether a true literal of it was met before
-abbrev pub first_from : Assignment → (n : ℕ) → (t : Bool) → List Clause → ℕ
-first_from a n t [] = 0
-first_from a n t (c ∷ cs) = if t || clause_true a c then first_from a (n + 1) false cs otherwise n
+abbrev pub first_from : Assignment → (n : ℕ) → (t : Bool) → List Clause → Option ℕ
+first_from a n t [] = None
+first_from a n t (c ∷ cs) = if t || clause_true a c then first_from a (n + 1) false cs otherwise Some n
 
-pub from_one : (a : Assignment) (n : ℕ) (cs : List Clause)
-    → first_from a n false cs ≡ (if every (map (clause_true a) cs) then 0 otherwise false_at n (map (clause_true a) cs))
+pub from_one : (a : Assignment) (n : ℕ) (cs : List Clause) → first_from a n false cs ≡ first_false_from n (map (clause_true a) cs)
 from_one a n [] = refl
-from_one a n (c ∷ cs) = by (clause_true a c) (from_one a (n + 1) cs)
-  where
-    by : (b : Bool) → first_from a (n + 1) false cs ≡ (if every (map (clause_true a) cs) then 0 otherwise false_at (n + 1) (map (clause_true a) cs))
-        → (if b then first_from a (n + 1) false cs otherwise n) ≡ (if every (b ∷ map (clause_true a) cs) then 0 otherwise false_at n (b ∷ map (clause_true a) cs))
-    by true e = e
-    by false e = refl
+from_one a n (c ∷ cs) = elim (clause_true a c) as (λ b. (if b then first_from a (n + 1) false cs otherwise Some n) ≡ first_false_from n (b ∷ map (clause_true a) cs)) [ true ↦ from_one a (n + 1) cs | false ↦ refl ]
 
 -- a literal at the front
 from_onto : (a : Assignment) (n : ℕ) (t : Bool) (l : Lit) (cs : List Clause) → first_from a n t (onto l cs) ≡ first_from a n (t || lit_true a l) cs
@@ -38,45 +33,29 @@ from_onto a n t l [] = refl
 from_onto a n true l (c ∷ cs) = refl
 from_onto a n false l (c ∷ cs) = refl
 
--- what a slot leaves
-abbrev onward : (model : List ℕ) → (n : ℕ) → List ℤ → Turn → ℕ
-onward model n l (On m t) = first_from (assigned model) m t (clauses_in l)
-onward model n l False = n
+a_literal : (model : List ℕ) (n : ℕ) (t : Bool) (x : ℤ) (l : List ℤ) → (x ≡ pos 0 → ⊥)
+    → first_from (assigned model) n t (clauses_in (x ∷ l)) ≡ first_from (assigned model) n (t || value model x) (clauses_in l)
+unfolding value
+a_literal model n t (pos zero) l h = absurd (h refl)
+a_literal model n t (pos (suc i)) l h = from_onto (assigned model) n t (plus i) (clauses_in l)
+a_literal model n t (negsuc i) l h = from_onto (assigned model) n t (minus i) (clauses_in l)
 
-turn_on : (model : List ℕ) (n : ℕ) (t : Bool) (x : ℤ) (l : List ℤ) → first_from (assigned model) n t (clauses_in (x ∷ l)) ≡ onward model n l (turned model n t x)
-unfolding turned value
-turn_on model n true (pos zero) l = refl
-turn_on model n false (pos zero) l = refl
-turn_on model n t (pos (suc i)) l = from_onto (assigned model) n t (plus i) (clauses_in l)
-turn_on model n t (negsuc i) l = from_onto (assigned model) n t (minus i) (clauses_in l)
+-- where the scan stands
+abbrev pub scan : (slots : List ℤ) (model : List ℕ) (i n : ℕ) (t : Bool) → Option ℕ
+scan slots model i n t = first_from (assigned model) n t (clauses_in (drop i slots))
 
--- a literal
-pub turned_lit : (model : List ℕ) (n : ℕ) (t : Bool) (x : ℤ) → (x ≡ pos 0 → ⊥) → turned model n t x ≡ On n (t || value model x)
-unfolding turned
-turned_lit model n t (pos zero) e = absurd (e refl)
-turned_lit model n t (pos (suc i)) e = refl
-turned_lit model n t (negsuc i) e = refl
+-- a slot more is read
+module _ (slots : List ℤ) (model : List ℕ) (i n : ℕ) (h : i < length slots) where
+  slot_is : {x : ℤ} → get_or slots i (pos 0) ≡ x → drop i slots ≡ x ∷ drop (i + 1) slots
+  slot_is e = rw (← e, add-one, drop-cons slots i (pos 0) h)
 
--- the number of the clause grows by 1 at most
-abbrev number_in : Turn → ℕ
-number_in (On n t) = n
-number_in False = 0
+  pub literal_read : (t : Bool) → (get_or slots i (pos 0) ≡ pos 0 → ⊥) → scan slots model i n t ≡ scan slots model (i + 1) n (t || value model (get_or slots i (pos 0)))
+  literal_read t e = rw (slot_is refl) (a_literal model n t (get_or slots i (pos 0)) (drop (i + 1) slots) e)
 
-grows : (model : List ℕ) (n : ℕ) (t : Bool) (x : ℤ) → number_in (turned model n t x) ≤ n + 1
-unfolding turned
-grows model n true (pos zero) = omega arith
-grows model n false (pos zero) = omega arith
-grows model n t (pos (suc i)) = omega arith
-grows model n t (negsuc i) = omega arith
+  pub true_ended : get_or slots i (pos 0) ≡ pos 0 → scan slots model i n true ≡ scan slots model (i + 1) (n + 1) false
+  true_ended e = rw (slot_is e)
 
--- one slot more is read
-module _ (slots : List ℤ) (model : List ℕ) (n : ℕ) (t : Bool) (i : ℕ) (h : i < length slots) where
-  next-slot : first_from (assigned model) n t (clauses_in (drop i slots)) ≡ onward model n (drop (i + 1) slots) (turned model n t (get_or slots i (pos 0)))
-  next-slot = rw (add-one, drop-cons slots i (pos 0) h) (turn_on model n t (get_or slots i (pos 0)) (drop (suc i) slots))
+  pub false_ended : get_or slots i (pos 0) ≡ pos 0 → scan slots model i n false ≡ Some n
+  false_ended e = rw (slot_is e)
 
-  pub slot_ends : turned model n t (get_or slots i (pos 0)) ≡ False → first_from (assigned model) n t (clauses_in (drop i slots)) ≡ n
-  slot_ends e = next-slot ∙ ap (onward model n (drop (i + 1) slots)) e
-
-  pub slot_on : {m : ℕ} {u : Bool} → turned model n t (get_or slots i (pos 0)) ≡ On m u
-      → (first_from (assigned model) n t (clauses_in (drop i slots)) ≡ first_from (assigned model) m u (clauses_in (drop (i + 1) slots))) × (m ≤ n + 1)
-  slot_on e = (next-slot ∙ ap (onward model n (drop (i + 1) slots)) e, rw e at (grows model n t (get_or slots i (pos 0))))
+pub ruleset scans = (from_one, literal_read, true_ended, false_ended, to_z-of_z)

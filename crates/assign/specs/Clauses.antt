@@ -1,12 +1,7 @@
 -- Slots back to clauses, and the first clause that is false: refusal 19's place. Assumes nothing.
-use Rattle.std.specs.Prelude.{Bool, false, ◌||◌, List, [], ◌∷◌, map, ℕ, zero, suc, ◌+◌, ℤ, pos, negsuc}
-use Rattle.whole.specs.Tests.{if◌then◌otherwise◌}
+use Rattle.std.specs.Prelude.{Option, Some, None, Bool, true, false, List, [], ◌∷◌, map, ℕ, zero, suc, ◌+◌, ℤ, pos, negsuc}
 use Rattle.circuit.specs.Literals.{Lit, plus, minus, Clause, clause_true}
-use Rattle.sheet.specs.Values.{every}
-use Rattle.sheet.specs.Calls.{false_at, assigned}
-use Rattle.assign.specs.declared.Turn.{Turn}
-use Rattle.assign.specs.declared.Turn.TheVariants.{On, False}
-use Rattle.assign.specs.Model.{value}
+use Rattle.sheet.specs.Calls.{assigned}
 
 -- a literal more at the front of the first clause; a clause that is never ended is none
 abbrev pub onto : Lit → List Clause → List Clause
@@ -24,12 +19,8 @@ clauses_in (negsuc i ∷ l) = onto (minus i) (clauses_in l)
 abbrev pub truths : (model : List ℕ) → List Clause → List Bool
 truths model cs = map (clause_true (assigned model)) cs
 
--- the number of the first that is false, from 1; 0 if every one is true
-abbrev pub first_false : List Bool → ℕ
-first_false bs = if every bs then 0 otherwise false_at 1 bs
-
--- what one slot does to a scan in clause n, of which a true literal was met or not: 0 ends the clause
-unfoldable pub turned : (model : List ℕ) → (n : ℕ) → (met : Bool) → ℤ → Turn
-turned model n met (pos zero) = if met then On (n + 1) false otherwise False
-turned model n met (pos (suc i)) = On n (met || value model (pos (suc i)))
-turned model n met (negsuc i) = On n (met || value model (negsuc i))
+-- the number of the first that is false, `from` the number of the first of all; none if every one is true
+abbrev pub first_false_from : (from : ℕ) → List Bool → Option ℕ
+first_false_from n [] = None
+first_false_from n (true ∷ bs) = first_false_from (n + 1) bs
+first_false_from n (false ∷ bs) = Some n

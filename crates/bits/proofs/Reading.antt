@@ -1,54 +1,75 @@
--- One literal more is read; what is read fits. Assumes nothing.
-use mathlib.Core.Path.{◌≡◌, refl, ◌∙◌}
-use mathlib.Core.Bool.{Bool}
-use mathlib.Core.List.{List, [], ◌∷◌}
-use Prim.Native.Nat.{ℕ, zero, suc, ◌+◌, ◌≤◌, ◌<◌}
-use native.Mathlib.Omega.{arith}
-use native.Mathlib.Numerals.{add-one}
-use lib.IntN.{ℤ, pos, neg_ℤ, ◌+ℤ◌, ◌*ℤ◌}
-use lib.ListN.{length, get_or, take, drop, length-map, length-drop}
-use lib.Seq.{drop-cons}
+-- Literals read from the last down, one more each time; what is read fits. Assumes nothing.
+use Rattle.std.proofs.Common.{◌≡◌, refl, ap, ◌∙◌, Bool, true, false, List, [], ◌∷◌, ◌++◌, ℕ, zero, suc, ◌≤◌, length, get_or, take, ℤ, pos, neg_ℤ, ◌+ℤ◌, ◌*ℤ◌, append_assoc, length-append, arith}
+use lib.ListN.{length-map}
+use lib.Seq.{get_or-append_seam}
+use mir.Val.{bool_byte}
 use Rattle.whole.specs.Bits.{bit, to_int, Fits}
 use Rattle.whole.proofs.Bits.{to_int_fits}
 use Rattle.whole.proofs.Ranges.{fits_up}
 use Rattle.circuit.specs.Literals.{falsity, lit_true}
 use Rattle.sheet.specs.Calls.{assigned}
 use Rattle.frame.specs.Literals.{unslot, literals}
-use Rattle.assign.specs.Model.{value}
+use Rattle.assign.specs.Model.{value, LitOf, AllLitOf}
 use Rattle.bits.specs.Readings.{values}
 
-length_values : (model : List ℕ) (l : List ℤ) → length (values model l) ≡ length l
-unfolding values
-length_values model l = length-map (literals l) (lit_true (assigned model)) ∙ length-map l unslot
+-- a truth as a number
+pub byte_bit : (b : Bool) → bool_byte b ≡ bit b
+byte_bit true = refl
+byte_bit false = refl
+
+pub bit_most : (b : Bool) → bit b ≤ 1
+bit_most true = omega arith
+bit_most false = omega arith
 
 -- at most 48 literals
-pub values_fit : (model : List ℕ) (l : List ℤ) → length l ≤ 48 → Fits 48 (to_int (values model l))
-values_fit model l h = fits_up (rw (length_values model l) h) (to_int_fits (values model l))
+values_fit : (model : List ℕ) (l : List ℤ) → length l ≤ 48 → Fits 48 (to_int (values model l))
+unfolding values
+values_fit model l h = fits_up (rw (length-map (literals l) (lit_true (assigned model)), length-map l unslot) h) (to_int_fits (values model l))
 
--- the last one is the sign
-pub last_value : (model : List ℕ) (l : List ℤ) (i : ℕ) → i + 1 ≡ length l → to_int (values model (drop i l)) ≡ neg_ℤ (pos (bit (value model (get_or l i (pos 0)))))
-unfolding values value
-last_value model [] i h = absurd (omega arith)
-last_value model (x ∷ []) zero h = refl
-last_value model (x ∷ y ∷ l) zero h = absurd (omega arith)
-last_value model (x ∷ l) (suc i) h = last_value model l i (omega arith)
-
-more_bits : (b : Bool) (bs : List Bool) → 0 < length bs → to_int (b ∷ bs) ≡ pos (bit b) +ℤ pos 2 *ℤ to_int bs
-more_bits b [] h = absurd (omega arith)
-more_bits b (c ∷ bs) h = refl
+pub no_values : (model : List ℕ) (l : List ℤ) → length l ≡ 0 → pos 0 ≡ to_int (values model l)
+unfolding values
+no_values model [] h = refl
+no_values model (x ∷ l) h = absurd (omega arith)
 
 -- one more below those that are read
-pub more_values : (model : List ℕ) (l : List ℤ) (i j : ℕ) → j ≡ i + 1 → j < length l
-    → to_int (values model (drop i l)) ≡ pos (bit (value model (get_or l i (pos 0)))) +ℤ pos 2 *ℤ to_int (values model (drop j l))
+more_values : (model : List ℕ) (x : ℤ) (l : List ℤ) → 1 ≤ length l → to_int (values model (x ∷ l)) ≡ pos (bit (value model x)) +ℤ pos 2 *ℤ to_int (values model l)
 unfolding values value
-more_values model l i j e h =
-    let d : drop i l ≡ get_or l i (pos 0) ∷ drop j l = rw (e, add-one) (drop-cons l i (pos 0) (omega arith)) in
-    rw d (more_bits (value model (get_or l i (pos 0))) (values model (drop j l)) (rw (length_values model (drop j l), length-drop) (omega arith)))
+more_values model x [] h = absurd (omega arith)
+more_values model x (y ∷ l) h = refl
+
+-- the literals in `rest` are left, and those behind are read
+pub record ReadDown (model : List ℕ) (l rest : List ℤ) (v : ℤ) : Type 0 where
+  pub above : List ℤ
+  pub all : l ≡ rest ++ above
+  pub some : 1 ≤ length above
+  pub value : v ≡ to_int (values model above)
+  pub fits : Fits 48 v
+
+module _ (model : List ℕ) (l : List ℤ) (few : length l ≤ 48) where
+  -- the sign
+  pub read_sign : (rest : List ℤ) (x v : ℤ) → l ≡ rest ++ x ∷ [] → v ≡ neg_ℤ (pos (bit (value model x))) → ReadDown model l rest v
+  unfolding values value
+  read_sign rest x v all e =
+      let value : v ≡ to_int (values model (x ∷ [])) = e in
+      record { above = x ∷ []; all = all; some = omega arith; value = value; fits = rw value (values_fit model (x ∷ []) (omega arith)) }
+
+  module _ {rest : List ℤ} {v : ℤ} (d : ReadDown model l rest v) (left : List ℤ) (x : ℤ) (e : rest ≡ left ++ x ∷ []) where
+    both : l ≡ left ++ (x ∷ d.above)
+    both = d.all ∙ ap (λ r. r ++ d.above) e ∙ append_assoc left (x ∷ []) d.above
+
+    pub read_more : (w : ℤ) → w ≡ pos (bit (value model x)) +ℤ pos 2 *ℤ v → ReadDown model l left w
+    read_more w f =
+        let value : w ≡ to_int (values model (x ∷ d.above)) = rw (more_values model x d.above d.some, ← d.value) f in
+        let h : length (x ∷ d.above) ≤ 48 = omega (arith, ap length both, length-append left (x ∷ d.above)) in
+        record { above = x ∷ d.above; all = both; some = omega arith; value = value; fits = rw value (values_fit model (x ∷ d.above) h) }
+
+    pub next_lit : {n : ℕ} → AllLitOf n l → LitOf n x
+    next_lit {n} h = rw (both, get_or-append_seam left x d.above (pos 0)) at (h (length left) (omega (arith, ap length both, length-append left (x ∷ d.above))))
 
 -- a Boolean's literal is the first
-pub first_value : (model : List ℕ) (w : ℕ) (l : List ℤ) → 1 ≤ length (take w l)
+pub first_value : (model : List ℕ) (w : ℕ) (l : List ℤ) → 1 ≤ w → 1 ≤ length l
     → value model (get_or l 0 (pos 0)) ≡ lit_true (assigned model) (get_or (literals (take w l)) 0 falsity)
 unfolding value
-first_value model zero l h = absurd (omega arith)
-first_value model (suc w) [] h = absurd (omega arith)
-first_value model (suc w) (x ∷ l) h = refl
+first_value model zero l h k = absurd (omega arith)
+first_value model (suc w) [] h k = absurd (omega arith)
+first_value model (suc w) (x ∷ l) h k = refl

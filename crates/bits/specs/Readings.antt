@@ -12,11 +12,11 @@ values model l = map (lit_true (assigned model)) (literals l)
 
 -- as many literals as a number may have
 pub record Readable (variables : ℕ) (l : List ℤ) : Type 0 where
-  pub some : 1 ≤ length l
   pub few : length l ≤ 48
   pub all : AllLitOf variables l
 
 -- a row's page holds its literals
 pub record Page (variables : ℕ) (r : Record) (l : List ℤ) : Type 0 where
+  pub some : 1 ≤ r.width
   pub long : r.width ≤ length l
   pub readable : Readable variables (take r.width l)

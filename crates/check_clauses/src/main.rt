@@ -83,12 +83,10 @@ fn show_bad_tables(rt: &impl Print) -> io::Result<()> {
 // Lines of zeros: Boolean constants, all false.
 fn show_many(rt: &impl Print) -> io::Result<()> {
     let mut text = [48u8; 4369];
-    let mut at = 16;
-    while at < 4369 {
-        text[at] = 10;
-        at += 17;
+    for line in text.chunks_exact_mut(17) {
+        line[16] = 10;
     }
-    show(rt, b"256 rows", &text[..4352])?;
+    show(rt, b"256 rows", text.split_at(4352).0)?;
     show(rt, b"257 rows", &text)
 }
 

@@ -126,14 +126,12 @@ fn show_bad_claims(rt: &impl Print) -> io::Result<()> {
 // Lines of zeros: Boolean constants, all false. An empty line may stand as line 256; any other line is refused there.
 fn show_many(rt: &impl Print) -> io::Result<()> {
     let mut text = [48u8; 4369];
-    let mut at = 16;
-    while at < 4369 {
-        text[at] = 10;
-        at += 17;
+    for line in text.chunks_exact_mut(17) {
+        line[16] = 10;
     }
     show(rt, b"257 rows", &text)?;
     text[4352] = 10;
-    show(rt, b"256 rows and an empty line", &text[..4353])
+    show(rt, b"256 rows and an empty line", text.split_at(4353).0)
 }
 
 fn main(rt: HostRuntime) -> io::Result<()> {

@@ -3,7 +3,6 @@
 // the refusal). The file stdout has what the document and its rules say.
 #![tactic(auto)]
 
-use sheet::Measured;
 use std::io;
 
 fn write_pair(rt: &impl Print, words: &[u8], a: u32, b: usize) -> io::Result<()> {
@@ -15,34 +14,31 @@ fn write_pair(rt: &impl Print, words: &[u8], a: u32, b: usize) -> io::Result<()>
 
 // The record of a row where the records have room, or the refusal.
 fn write_checked(rt: &impl Print, bytes: &[u8], room: usize, row: u8) -> io::Result<()> {
-    let s = table::check_core(bytes, room);
-    if s.number != 0 {
-        write_pair(rt, b": refused ", s.number, s.place)?;
-        return Ok(());
+    match table::check_core(bytes, room) {
+        Ok(sheet) => {
+            if let Some(record) = sheet.records().get(usize::from(row)) {
+                write_pair(
+                    rt,
+                    b": width and denominator ",
+                    record.width,
+                    record.denominator as usize,
+                )?;
+            }
+            Ok(())
+        }
+        Err(refusal) => write_pair(rt, b": refused ", refusal.reason.number(), refusal.place),
     }
-    let records = s.records;
-    let r = row as usize;
-    let record = records[r];
-    write_pair(
-        rt,
-        b": width and denominator ",
-        record.width,
-        record.denominator as usize,
-    )?;
-    Ok(())
 }
 
 fn write_measured(rt: &impl Print, bytes: &[u8]) -> io::Result<()> {
-    let m = table::measure(bytes);
-    match m {
-        Measured::Counted(k) => {
-            write_pair(rt, b"; counted ", k.variables, k.clauses as usize)?;
+    match table::measure(bytes) {
+        Ok(counts) => {
+            write_pair(rt, b"; counted ", counts.variables, counts.clauses as usize)?;
             rt.write_all(b" ")?;
-            rt.print(k.slots)?;
+            rt.print(counts.slots)
         }
-        Measured::Refused(n, p) => write_pair(rt, b"; refused ", n, p)?,
+        Err(refusal) => write_pair(rt, b"; refused ", refusal.reason.number(), refusal.place),
     }
-    Ok(())
 }
 
 fn show(rt: &impl Print, name: &[u8], bytes: &[u8], room: usize, row: u8) -> io::Result<()> {

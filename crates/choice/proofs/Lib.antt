@@ -1,2 +1,2 @@
--- The turns of choice. Assumes nothing.
+-- The turns of a choice. Assumes nothing.
 pub mod Turns

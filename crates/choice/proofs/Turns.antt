@@ -1,23 +1,24 @@
--- One turn of a choice: its circuit, at a place of the two arrays. Assumes nothing.
-use mathlib.Core.Path.{◌≡◌}
+-- One turn of a choice: a MUX, then the choice of the places behind it. Assumes nothing.
+use mathlib.Core.Path.{◌≡◌, refl}
 use mathlib.Core.List.{List, [], ◌∷◌, ◌++◌}
-use Prim.Native.Nat.{ℕ, suc, ◌+◌, ◌≤◌, ◌<◌}
-use native.Mathlib.Numerals.{add-one}
 use lib.IntN.{ℤ}
-use lib.ListN.{length}
-use Rattle.circuit.specs.Literals.{Lit, plus}
+use Rattle.circuit.specs.Literals.{Lit}
 use Rattle.circuit.specs.Gates.{mux}
-use Rattle.circuit.specs.Circuits.{gates, out}
+use Rattle.circuit.specs.Circuits.{Circuit, ret, make}
 use Rattle.circuit.specs.Numbers.{muxes}
-use Rattle.circuit.proofs.Lengths.{gates_same, out_same}
-use Rattle.frame.specs.Literals.{literal_at, between}
-use Rattle.frame.proofs.Literals.{between_cons}
+use Rattle.frame.specs.declared.Cursor.{Cursor}
+use Rattle.frame.specs.declared.Made.{Made}
+use Rattle.frame.specs.Written.{RoomFor, Makes}
+use Rattle.frame.proofs.Loops.{Filling, filling_room, filling_turn}
 
-module _ (i w : ℕ) (x y : List ℤ) (c : Lit) (n : ℕ) where
-  -- there is a place left
-  module _ (h : i < w) (hx : w ≤ length x) (hy : w ≤ length y) where
-    pub gates_at : gates n (muxes c (between i w x) (between i w y)) ≡ (mux c (literal_at x i) (literal_at y i) ∷ []) ++ gates (n + 1) (muxes c (between (i + 1) w x) (between (i + 1) w y))
-    gates_at = rw (between_cons i w x h hx, between_cons i w y h hy, add-one n, gates_same (suc n) (muxes c (between (i + 1) w x) (between (i + 1) w y)) (λ gs. plus n ∷ gs))
+module _ {from : Cursor} {all : Circuit (List Lit)} {before l : List ℤ} {at : Cursor} {done : List Lit} (condition a b : Lit) (xs ys : List Lit)
+    (h : Filling from all before l at done (muxes condition (a ∷ xs) (b ∷ ys))) where
+  pub mux_room : RoomFor at (make (mux condition a b)) l
+  mux_room = filling_room (make (mux condition a b)) (λ g. g) (λ g. muxes condition xs ys) h
 
-    pub out_at : out n (muxes c (between i w x) (between i w y)) ≡ plus n ∷ out (n + 1) (muxes c (between (i + 1) w x) (between (i + 1) w y))
-    out_at = rw (between_cons i w x h hx, between_cons i w y h hy, add-one n) (out_same (suc n) (muxes c (between (i + 1) w x) (between (i + 1) w y)) (λ gs. plus n ∷ gs))
+  pub mux_turn : {l' : List ℤ} {m : Made Lit} → Makes at (make (mux condition a b)) l l' m → Filling from all before l' m.to (done ++ m.value ∷ []) (muxes condition xs ys)
+  mux_turn w = filling_turn (make (mux condition a b)) (λ g. g) (λ g. muxes condition xs ys) h w
+
+pub muxes_none : (condition : Lit) (xs : List Lit) → muxes condition xs [] ≡ ret []
+muxes_none condition [] = refl
+muxes_none condition (a ∷ xs) = refl

@@ -1,3 +1,3 @@
--- The values outside their bits, and what choosing answers. Assumes nothing.
-pub mod Outside
+-- The tests of values one by one, and what choosing answers. Assumes nothing.
+pub mod Testing
 pub mod Choosing

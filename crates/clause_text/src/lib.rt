@@ -3,45 +3,35 @@
 
 ghost use Rattle.std.specs.Prelude.{◌≡◌, false, ◌+◌, ◌*◌, ◌≤◌, length};
 ghost use Rattle.frame.specs.Frame.{front};
-ghost use Rattle.sheet.specs.Calls.{◌giving◌, left, sheet_slots, counted};
+ghost use Rattle.sheet.specs.Calls.{◌giving◌, left, sheet_slots};
 ghost use Rattle.sheet.specs.Programs.{clause_program};
 ghost use Rattle.program.specs.Sheets.{sheet_of, sheet_read};
 ghost use Rattle.clause_text.specs.Printing.{dimacs_text};
 
 use circuit::Counts;
-use sheet::{LinesRead, Measured};
+use sheet::Refusal;
 
 // What the table counts whose slots are written, or its refusal.
-fn write_clauses(table: &[u8], map: &mut [i32], slots: &mut [i32]) -> Measured
+fn write_clauses(table: &[u8], map: &mut [i32], slots: &mut [i32]) -> Result<Counts, Refusal>
     requires map_room { 12288 ≤ length map.old }
     requires slots_length { length slots.old ≡ 16384 }
-    ensures answer { counted result ≡ (sheet_of table.now giving λ sheet. sheet.counts) }
+    ensures answer { result ≡ (sheet_of table.now giving λ sheet. sheet.counts) }
     ensures slots { slots.new ≡ left (sheet_of table.now) sheet_slots slots.old }
 {
-    let s = program::write_sheet(table, map, slots);
-    let counts = s.counts;
-    if s.number == 0 {
-        return Measured::Counted(counts);
-    }
-    Measured::Refused(s.number, s.place)
+    let sheet = program::write_sheet(table, map, slots)?;
+    Ok(sheet.counts())
 }
 
 // The same of the table in a text's lines.
-fn clauses_in(text: &[u8], map: &mut [i32], slots: &mut [i32]) -> Measured
+fn clauses_in(text: &[u8], map: &mut [i32], slots: &mut [i32]) -> Result<Counts, Refusal>
     requires map_room { 12288 ≤ length map.old }
     requires slots_length { length slots.old ≡ 16384 }
-    ensures answer { counted result ≡ (sheet_read false text.now giving λ sheet. sheet.counts) }
+    ensures answer { result ≡ (sheet_read false text.now giving λ sheet. sheet.counts) }
     ensures slots { slots.new ≡ left (sheet_read false text.now) sheet_slots slots.old }
 {
     let mut table = [0u8; 2048];
-    let read = lines::read_lines(text, &mut table);
-    match read {
-        LinesRead::Refused(number, place) => Measured::Refused(number, place),
-        LinesRead::Read(found) => {
-            let n = 8 * found.rows as usize;
-            write_clauses(&table[..n], map, slots)
-        }
-    }
+    let found = lines::read_lines(text, &mut table)?;
+    write_clauses(&table[..8 * found.rows as usize], map, slots)
 }
 
 // The DIMACS text of a table that counts so, its slots at the front of those lent, over the front of out; how many bytes it has.
@@ -63,12 +53,10 @@ pub fn clause_text(input: &[u8], out: &mut [u8]) -> usize
     ensures answer { result ≡ length (clause_program input.now) }
     ensures out { out.new ≡ front (clause_program input.now) out.old }
 {
-    let n = program::used(input);
     let mut map = [0i32; 12288];
     let mut slots = [0i32; 16384];
-    let measured = clauses_in(&input[..n], &mut map, &mut slots);
-    match measured {
-        Measured::Refused(number, place) => print::refused_line(number, place, out),
-        Measured::Counted(counts) => print_clauses(counts, &slots, out),
+    match clauses_in(program::used(input), &mut map, &mut slots) {
+        Ok(counts) => print_clauses(counts, &slots, out),
+        Err(refusal) => print::refused_line(refusal, out),
     }
 }

@@ -18,7 +18,7 @@ pub const NOTHING: Counts = Counts {
 // What two parts count together: no table comes near the bound.
 pub fn plus(a: Counts, b: Counts) -> Counts
     requires { (Below 1000000000 a) × (Below 1000000000 b) }
-    ensures answer { result ≡ Counting.◌⊕◌ a b }
+    ensures { result ≡ Counting.◌⊕◌ a b }
 {
     Counts {
         unknowns: a.unknowns + b.unknowns,
@@ -29,6 +29,7 @@ pub fn plus(a: Counts, b: Counts) -> Counts
 }
 
 // What n bits count, where each counts a, at most as much as a bit of an adder.
+#[tactic(auto, using(crate::proofs::Bounds::bits_times))]
 pub fn times(n: u32, a: Counts) -> Counts
     requires n_most { n ≤ 48 }
     requires below_a { Below 56 a }
@@ -44,6 +45,7 @@ pub fn times(n: u32, a: Counts) -> Counts
 }
 
 // What a product of w bits counts.
+#[tactic(auto, using(crate::proofs::Bounds::square), unfolding(circuit::specs::Counting::a_product))]
 pub fn product(w: u32) -> Counts
     requires { w ≤ 48 }
     ensures answer { result ≡ Counting.a_product w }
@@ -59,6 +61,7 @@ pub fn product(w: u32) -> Counts
 }
 
 // The width of a number of w bits that is expanded by a factor.
+#[tactic(auto, using(numbers::proofs::Digits::fewest_natural), unfolding(circuit::specs::Counting::expanded_width))]
 pub fn expanded_width(w: u32, factor: u32) -> u32
     requires { w ≤ 48 }
     ensures answer { result ≡ Counting.expanded_width w factor }
@@ -67,10 +70,11 @@ pub fn expanded_width(w: u32, factor: u32) -> u32
     if factor == 1 {
         return w;
     }
-    w + numbers::bits(factor)
+    w + numbers::bits(i64::from(factor))
 }
 
 // What the expansion of a number of w bits by a factor counts.
+#[tactic(auto, unfolding(circuit::specs::Counting::expanded_width, circuit::specs::Counting::an_expansion))]
 pub fn expansion(w: u32, factor: u32) -> Counts
     requires { Counting.expanded_width w factor ≤ 48 }
     ensures answer { result ≡ Counting.an_expansion w factor }
@@ -79,5 +83,5 @@ pub fn expansion(w: u32, factor: u32) -> Counts
     if factor == 1 {
         return NOTHING;
     }
-    product(w + numbers::bits(factor))
+    product(w + numbers::bits(i64::from(factor)))
 }

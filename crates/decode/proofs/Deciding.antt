@@ -1,127 +1,81 @@
--- What decoding knows from step to step: nothing is written at a refusal; then the table is, 19 is decided over its slots, and the settings
--- are left to write. Assumes nothing.
-use mathlib.Core.Path.{◌≡◌, sym, ap, ◌∙◌}
+-- What decoding knows from step to step: the table is written, 19 is decided over its slots, and what then remains is the settings, or is
+-- not written. Assumes nothing.
+use Rattle.std.specs.Prelude.{Ok, Err, Option, Some, None, is_some}
+use mathlib.Core.Path.{◌≡◌, refl, sym, ap, ◌∙◌}
+use mathlib.Core.Bool.{true, false}
 use mathlib.Core.List.{List, ◌++◌}
-use Prim.Native.Nat.{ℕ, ◌≤◌, ◌<◌}
+use Prim.Native.Nat.{ℕ, ◌≤◌}
 use native.Mathlib.Omega.{arith}
 use lib.IntN.{ℤ}
 use lib.ListN.{length, take, drop, length-append}
+use lib.Seq.{take_at}
 use Rattle.circuit.specs.Literals.{Clause}
-use Rattle.sheet.specs.Rows.{rows_of}
-use Rattle.sheet.specs.Acceptance.{Outcome, accepted, Sheet, accept}
-use Rattle.sheet.specs.Steps.{clauses, slots_for, map_for}
-use Rattle.sheet.specs.Calls.{decodable, decoding, left, sheet_map, sheet_slots, settings_of}
+use Rattle.sheet.specs.declared.Reason.TheVariants.{FalseClause}
+use Rattle.sheet.specs.declared.Refusal.{Refusal}
+use Rattle.sheet.specs.Acceptance.{Outcome, Sheet}
+use Rattle.sheet.specs.Steps.{clauses, slots_for}
+use Rattle.sheet.specs.Calls.{◌>>◌, decodable, decoding, left, settings_of}
+use Rattle.sheet.proofs.Naming.{clauses_named}
 use Rattle.promise.proofs.Counts.{counts_are_made}
-use Rattle.table.specs.declared.answer.Survey.{Survey}
-use Rattle.table.specs.Surveys.{as_survey, InBounds}
-use Rattle.table.proofs.Answers.{was_accepted, was_refused, left_refused, left_accepted}
-use Rattle.frame.specs.Frame.{front}
 use Rattle.table.specs.Accepted.{Accepted}
-use Rattle.table.proofs.Rowwise.{known}
-use Rattle.writer.specs.Writable.{Writable}
-use Rattle.write.proofs.Roomy.{writable, map_left, slots_left}
+use Rattle.table.proofs.Buffers.{left_refused, left_accepted}
+use Rattle.table.proofs.Rowwise.{few_counts}
+use Rattle.frame.specs.Frame.{front}
 use Rattle.assign.specs.Model.{AllSlotOf}
-use Rattle.assign.specs.Clauses.{clauses_in, truths, first_false}
-use Rattle.decode.specs.Decoded.{as_decoded}
-use Rattle.decode.specs.Settings.{Decodable}
-use Rattle.decode.proofs.Chain.{Ready, decodable_numbered, decodable_tells}
-use Rattle.decode.proofs.Falsified.{decoding_refused, decoding_false, decoding_true}
-use Rattle.decode.proofs.Written.{written_slots, written_clauses}
+use Rattle.assign.specs.Clauses.{clauses_in, truths, first_false_from}
+use Rattle.assign.proofs.Slots.{slots_name}
+use Rattle.assign.proofs.Refusal.{clauses_written, refused_at, counting_refuses}
+use Rattle.decode.specs.Tried.{unless_false}
 
--- the survey of a table that the model makes clause k of false
-abbrev falsified : Survey → ℕ → Survey
-falsified s k = record { number = 19; place = k; rows = s.rows; records = s.records; counts = s.counts }
+-- ---- 19 behind the other refusals: the first false clause decides
+unless_refused : (k : Option ℕ) (sheet : Sheet) → (refused_at FalseClause k >> Ok sheet) ≡ unless_false k sheet
+unless_refused None sheet = refl
+unless_refused (Some k) sheet = refl
 
-module _ (table : List ℕ) (records : ℕ) (map₀ slots₀ : List ℤ) (model : List ℕ) (values₀ : List ℤ) where
-  abbrev could : Outcome Sheet
-  could = decodable table records (length map₀) (length slots₀) model (length values₀)
+module _ (table : List ℕ) (records map slots : ℕ) (model : List ℕ) (values : ℕ) where
+  pub decoding_refused : {refusal : Refusal} → decodable table records map slots model values ≡ Err refusal → decoding table records map slots model values ≡ Err refusal
+  unfolding decoding
+  decoding_refused e = rw e
 
-  abbrev does : Outcome Sheet
-  does = decoding table records (length map₀) (length slots₀) model (length values₀)
+  pub decoding_decided : {sheet : Sheet} → decodable table records map slots model values ≡ Ok sheet
+      → decoding table records map slots model values ≡ unless_false (first_false_from 1 (truths model (clauses sheet.rows))) sheet
+  unfolding decoding
+  decoding_decided {sheet} is =
+      let bs = truths model (clauses sheet.rows) in
+      rw (is, counting_refuses FalseClause 1 bs) (unless_refused (first_false_from 1 bs) sheet)
 
-  -- what is promised of the answer s and of what the buffers hold
-  abbrev Promised : Survey → (map slots values : List ℤ) → Type 0
-  Promised s map slots values =
-      (s ≡ as_decoded could does) × (InBounds s × ((map ≡ left could sheet_map map₀) × ((slots ≡ left could sheet_slots slots₀) × (values ≡ left does (settings_of model) values₀))))
+-- ---- the slots of a written table: each is 0 or a literal of one of its variables, and they are read back as its clauses
+module _ {sheet : Sheet} (a : Accepted sheet) (slots₀ : List ℤ) {slots : List ℤ} (e : slots ≡ front (slots_for sheet.rows) slots₀) where
+  many : sheet.counts.slots ≡ length (slots_for sheet.rows)
+  many = (counts_are_made a.table sheet a.is).slot
 
-  module _ {s : Survey} (value : s ≡ as_survey could) (bounds : InBounds s) where
-    pub nothing_written : (s.number ≡ 0 → ⊥) → Promised s map₀ slots₀ values₀
-    nothing_written h =
-        let (n, p, is, e) = was_refused could value h in
-        let d = decoding_refused table records (length map₀) (length slots₀) model (length values₀) is in
-        (rw (is, d) e, (bounds, (left_refused sheet_map map₀ is, (left_refused sheet_slots slots₀ is, left_refused (settings_of model) values₀ d))))
+  tail : List ℤ
+  tail = drop (length (slots_for sheet.rows)) slots₀
 
-    -- no refusal before 19
-    module _ (h : s.number ≡ 0) where
-      found : (sheet : Sheet) × (could ≡ accepted sheet) × (s ≡ as_survey (accepted sheet))
-      found = was_accepted could value (decodable_numbered table records (length map₀) (length slots₀) model (length values₀)) h
+  whole : slots ≡ slots_for sheet.rows ++ tail
+  unfolding front tail
+  whole = e
 
-      abbrev sheet : Sheet
-      sheet = found.0
+  pub slots_fit : sheet.counts.slots ≤ length slots
+  slots_fit = omega (arith, ap length whole, length-append (slots_for sheet.rows) tail, many)
 
-      is : could ≡ accepted sheet
-      is = found.1
+  pub slots_named : {m : ℕ} → m ≡ sheet.counts.variables → AllSlotOf m (take sheet.counts.slots slots)
+  unfolding slots_for
+  slots_named same =
+      let all : take sheet.counts.slots slots ≡ slots_for sheet.rows = ap (take sheet.counts.slots) whole ∙ take_at (slots_for sheet.rows) tail sheet.counts.slots (sym many) in
+      rw (all, same) (slots_name sheet.counts.variables (omega (arith, (few_counts a).variables)) (clauses sheet.rows) (clauses_named a.table sheet a.is))
 
-      surveyed : s ≡ as_survey (accepted sheet)
-      surveyed = found.2
+  pub slots_read : clauses_in (take sheet.counts.slots slots) ≡ clauses sheet.rows
+  unfolding slots_for
+  slots_read = ap (λ (k : ℕ). clauses_in (take k slots)) many ∙ clauses_written (clauses sheet.rows) slots tail whole
 
-      ready : Ready table sheet (length map₀) (length slots₀) model (length values₀)
-      ready = decodable_tells table records (length map₀) (length slots₀) model (length values₀) sheet is
+-- ---- what remains of the values
+module _ (model : List ℕ) (values₀ : List ℤ) (sheet : Sheet) {o : Outcome Sheet} where
+  pub values_put : (k : Option ℕ) → o ≡ unless_false k sheet → is_some k ≡ false → {values : List ℤ} → values ≡ front (settings_of model sheet) values₀ → values ≡ left o (settings_of model) values₀
+  unfolding front
+  values_put None decided h e = e ∙ left_accepted (settings_of model) values₀ decided
+  values_put (Some k) decided h e = cc
 
-      pub to_write : Writable table s.rows s.records (length map₀) (length slots₀)
-      to_write = writable ready.roomy surveyed bounds
-
-      abbrev ok : Accepted table s.rows s.records
-      ok = known ready.roomy.is surveyed
-
-      few : sheet.counts.variables < 2147483648
-      few = omega (arith, bounds.counts.variables, ap (λ (t : Survey). t.counts.variables) surveyed)
-
-      -- the table is written
-      module _ {map slots : List ℤ} (m : map ≡ front (map_for (rows_of s.rows table)) map₀) (l : slots ≡ front (slots_for (rows_of s.rows table)) slots₀) where
-        map_is : map ≡ left could sheet_map map₀
-        map_is = map_left ok is map₀ m
-
-        slots_are : slots ≡ left could sheet_slots slots₀
-        slots_are = slots_left ok is slots₀ l
-
-        slots_whole : slots ≡ slots_for sheet.rows ++ drop (length (slots_for sheet.rows)) slots₀
-        slots_whole = slots_are ∙ sym (left_accepted sheet_slots slots₀ is)
-
-        pub slots_fit : s.counts.slots ≤ length slots
-        slots_fit =
-            let ws = slots_for sheet.rows in
-            let n : s.counts.slots ≡ sheet.counts.slots = ap (λ (t : Survey). t.counts.slots) surveyed in
-            omega (arith, ap length slots_whole, length-append ws (drop (length ws) slots₀), (counts_are_made table sheet ready.roomy.is).slot)
-
-        pub slots_named : AllSlotOf (length model) (take s.counts.slots slots)
-        slots_named =
-            rw surveyed
-            (written_slots table sheet ready.roomy.is slots (drop (length (slots_for sheet.rows)) slots₀) slots_whole few ready.variables)
-
-        pub to_put : Decodable table s.rows s.records map model (length values₀)
-        to_put = record {
-          table_is = ok;
-          few = few;
-          behind = drop (length (map_for sheet.rows)) map₀;
-          written = map_is ∙ sym (left_accepted sheet_map map₀ is);
-          variables = ready.variables;
-          fits = ready.fits;
-        }
-
-        -- k is the number of the first false clause
-        module _ {k : ℕ} (f : k ≡ first_false (truths model (clauses_in (take s.counts.slots slots)))) where
-          first : k ≡ first_false (truths model (clauses sheet.rows))
-          first =
-              let e : clauses_in (take s.counts.slots slots) ≡ clauses sheet.rows = ap (λ (t : Survey). clauses_in (take t.counts.slots slots)) surveyed ∙ written_clauses table sheet ready.roomy.is slots (drop (length (slots_for sheet.rows)) slots₀) slots_whole in
-              f ∙ ap (λ (cs : List Clause). first_false (truths model cs)) e
-
-          pub clause_false : (k ≡ 0 → ⊥) → Promised (falsified s k) map slots values₀
-          clause_false n =
-              let d = decoding_false table records (length map₀) (length slots₀) model (length values₀) sheet is first n in
-              (rw (is, d) (ap (λ t. falsified t k) surveyed), (record { few = bounds.few; limits = bounds.limits; counts = bounds.counts }, (map_is, (slots_are, left_refused (settings_of model) values₀ d))))
-
-          pub clauses_true : k ≡ 0 → {values : List ℤ} → values ≡ left (accept table) (settings_of model) values₀ → Promised s map slots values
-          clauses_true z g =
-              let d = decoding_true table records (length map₀) (length slots₀) model (length values₀) sheet is first z in
-              (rw (is, d) surveyed, (bounds, (map_is, (slots_are, g ∙ sym (left_accepted (settings_of model) values₀ ready.roomy.is) ∙ left_accepted (settings_of model) values₀ d))))
+  pub values_kept : (k : Option ℕ) → o ≡ unless_false k sheet → is_some k ≡ true → values₀ ≡ left o (settings_of model) values₀
+  values_kept None decided h = cc
+  values_kept (Some k) decided h = left_refused (settings_of model) values₀ decided

@@ -1,7 +1,5 @@
 -- The laws of decoding. Assumes nothing.
 pub mod Chain
-pub mod Falsified
-pub mod Written
+pub mod Deciding
 pub mod Rows
 pub mod Putting
-pub mod Deciding

@@ -1,28 +1,26 @@
 -- The settings written row by row: what the loop knows, a row more, and the end. Assumes nothing.
-use mathlib.Core.Path.{◌≡◌, refl, sym, ap, ◌∙◌, subst}
+use mathlib.Core.Path.{◌≡◌, refl, sym, ap, ◌∙◌}
 use mathlib.Core.Bool.{Bool, true, false}
 use mathlib.Core.List.{List, [], ◌∷◌, ◌++◌}
-use Prim.Native.Nat.{ℕ, ◌+◌, ◌≤◌, ◌<◌}
+use Prim.Native.Nat.{ℕ, ◌+◌, ◌*◌, ◌≤◌, ◌<◌}
 use native.Mathlib.Omega.{arith}
 use lib.IntN.{ℤ}
-use lib.ListN.{length, get_or, length-append}
+use lib.ListN.{length, get_or, drop, set, length-set}
+use Rattle.std.proofs.lemmas.List.{drop_all}
 use Rattle.whole.specs.Tests.{if◌then◌otherwise◌}
-use Rattle.circuit.specs.declared.Counts.{Counts}
 use Rattle.sheet.specs.declared.Fields.{Fields}
 use Rattle.sheet.specs.declared.Record.{Record}
 use Rattle.sheet.specs.Rows.{uses, is_unknown}
 use Rattle.sheet.specs.Values.{Value, numerator, unknowns}
-use Rattle.sheet.specs.Acceptance.{accept}
-use Rattle.sheet.specs.Steps.{cells, read_each, read_rows, of_unknowns, settings}
-use Rattle.sheet.specs.Calls.{assigned, left, settings_of}
-use Rattle.sheet.proofs.Walked.{Ahead, Row, ahead_row}
+use Rattle.sheet.specs.Acceptance.{record_at, Sheet}
+use Rattle.sheet.specs.Steps.{cells, map_for, read_each, read_rows, of_unknowns, settings}
+use Rattle.sheet.specs.Calls.{assigned, settings_of, unknown_count}
 use Rattle.frame.specs.Frame.{front, over}
-use Rattle.frame.proofs.Frames.{length_over, over_none, over_over, over_zero}
-use Rattle.table.proofs.Earlier.{zeros}
-use Rattle.table.proofs.Answers.{left_accepted}
-use Rattle.table.proofs.Rowwise.{tells, all_read, all_ahead, all_bytes, few_rows, own_record, none_left}
-use Rattle.decode.specs.Settings.{setting_in, AtRow, Decodable}
-use Rattle.decode.proofs.Rows.{setting_some, map_long, page_of, settings_from, row_more}
+use Rattle.frame.proofs.Frames.{over_none, over_zero, over-set}
+use Rattle.table.proofs.Rowwise.{as_many, own_record, no_fields, zeros}
+use Rattle.bits.specs.Readings.{Page}
+use Rattle.decode.specs.Written.{Written}
+use Rattle.decode.proofs.Rows.{settings_from, read_of, page_of, row_more}
 
 -- no more settings than unknowns
 few_settings : (fs : List Fields) (vs : List Value) → length (of_unknowns fs vs) ≤ length (unknowns fs)
@@ -36,70 +34,42 @@ few_settings (f ∷ fs) (v ∷ vs) = by (is_unknown (uses f.kind)) (few_settings
     by false h = h
 
 -- r rows are done, and n settings written
-pub record Putting (table : List ℕ) (rows : ℕ) (records : List Record) (map : List ℤ) (model : List ℕ) (values₀ values : List ℤ) (n r : ℕ) : Type 0 where
-  pub ok : Decodable table rows records map model (length values₀)
-  pub rest : List Fields
-  pub total : Counts
-  pub ahead : Ahead table ok.table_is.sheet.records total rows r rest
-  pub long : length values ≡ length values₀
-  pub room : n + length (settings_from ok r rest) ≤ length values
-  pub left : over n (settings_from ok r rest) values ≡ front (settings_of model ok.table_is.sheet) values₀
+pub record Putting (sheet : Sheet) (model : List ℕ) (values₀ values : List ℤ) (n r : ℕ) : Type 0 where
+  pub room : n + length (settings_from sheet model r) ≤ length values
+  pub left : over n (settings_from sheet model r) values ≡ front (settings_of model sheet) values₀
 
-pub putting_none : (table : List ℕ) (rows : ℕ) (records : List Record) (map : List ℤ) (model : List ℕ) (values : List ℤ) → Decodable table rows records map model (length values)
-    → Putting table rows records map model values values 0 0
+pub putting_none : (sheet : Sheet) (model : List ℕ) (values : List ℤ) → unknown_count sheet ≤ length values → Putting sheet model values values 0 0
 unfolding settings read_rows
-putting_none table rows records map model values ok =
-    let fs = ok.table_is.sheet.rows in
-    record {
-      ok = ok;
-      rest = fs;
-      total = (tells ok.table_is).total;
-      ahead = subst (λ (rest : List Fields). Ahead table ok.table_is.sheet.records (tells ok.table_is).total rows 0 rest) (sym (all_read ok.table_is)) (all_ahead ok.table_is);
-      long = refl;
-      room = omega (arith, few_settings fs (read_each (assigned model) ok.table_is.sheet.records (cells fs)), ok.fits);
-      left = over_zero (settings_of model ok.table_is.sheet) values;
-    }
+putting_none sheet model values fits = record {
+  room = omega (arith, few_settings sheet.rows (read_each (assigned model) sheet.records (cells sheet.rows)));
+  left = over_zero (settings_of model sheet) values;
+}
 
-module _ {table : List ℕ} {rows : ℕ} {records : List Record} {map : List ℤ} {model : List ℕ} {values₀ values : List ℤ} {n r : ℕ} (p : Putting table rows records map model values₀ values n r) where
-  pub putting_end : rows ≤ r → values ≡ left (accept table) (settings_of model) values₀
-  unfolding front
+module _ {sheet : Sheet} {model : List ℕ} {values₀ values : List ℤ} {n r : ℕ} (p : Putting sheet model values₀ values n r) where
+  pub putting_end : length sheet.rows ≤ r → values ≡ front (settings_of model sheet) values₀
   putting_end h =
-      let e = none_left p.rest (omega (arith, p.ahead.left)) in
-      sym (over_none n values) ∙ ap (λ (fs : List Fields). over n (settings_from p.ok r fs) values) (sym e) ∙ p.left ∙ left_accepted (settings_of model) values₀ p.ok.table_is.is
+      sym (over_none n values) ∙ ap (λ (fs : List Fields). over n (of_unknowns fs (read_each (assigned model) (drop r sheet.records) (drop r (cells sheet.rows)))) values) (sym (drop_all r sheet.rows h)) ∙ p.left
 
-  -- row r is next
-  module _ (h : r < rows) where
-    row : Row table p.ok.table_is.sheet.records p.total rows r p.rest
-    row = ahead_row table p.ok.table_is.sheet.records p.total rows r p.rest h p.ahead
+  -- row r is next: it is f, and `own` its record
+  module _ {map : List ℤ} (written : Written sheet map model) (h : r < length sheet.rows) {f : Fields} (e : f ≡ get_or sheet.rows r no_fields) {own : Record} (g : own ≡ get_or sheet.records r zeros) where
+    own_is : own ≡ record_at sheet.records r
+    own_is = g ∙ own_record sheet.records r zeros (omega (arith, h, as_many written.accepted))
 
-    abbrev now : List ℤ
-    now = setting_in table r (get_or records r zeros) map model
+    more : (b : Bool) → is_unknown (uses f.kind) ≡ b → settings_from sheet model r ≡ (if b then read_of own r map model ∷ [] otherwise []) ++ settings_from sheet model (r + 1)
+    more b u = rw own_is (row_more written r h b (rw e at u))
 
-    more : settings_from p.ok r p.rest ≡ now ++ settings_from p.ok (r + 1) row.others
-    more = ap (settings_from p.ok r) row.split ∙ row_more p.ok r h row.fields row.others row.read
+    pub putting_page : Page (length model) own (drop (48 * r) map)
+    putting_page = rw own_is (page_of written r h)
 
-    room_now : n + length now + length (settings_from p.ok (r + 1) row.others) ≤ length values
-    room_now = omega (arith, p.room, ap length more, length-append now (settings_from p.ok (r + 1) row.others))
+    pub putting_passed : is_unknown (uses f.kind) ≡ false → Putting sheet model values₀ values n (r + 1)
+    putting_passed u = record { room = rw (more false u) at p.room; left = rw (more false u) at p.left }
 
-    pub putting_row : AtRow table r (get_or records r zeros) map (length model) n (length values)
-    putting_row = record {
-      few = omega (arith, few_rows p.ok.table_is);
-      bytes = omega (arith, all_bytes p.ok.table_is);
-      places = omega (arith, map_long p.ok);
-      page = rw (own_record p.ok.table_is r h) (page_of p.ok r h);
-      fits = λ u. omega (arith, room_now, ap length (setting_some table r (get_or records r zeros) map model u));
-    }
+    module _ (u : is_unknown (uses f.kind) ≡ true) where
+      pub putting_room : n < length values
+      putting_room = omega (arith, p.room, ap length (more true u))
 
-    pub putting_next : {values' : List ℤ} {n' : ℕ} → values' ≡ over n now values → n' ≡ n + length now → Putting table rows records map model values₀ values' n' (r + 1)
-    putting_next {values'} {n'} e f =
-        let after = settings_from p.ok (r + 1) row.others in
-        let same : length values' ≡ length values = ap length e ∙ length_over n now values (omega (arith, room_now)) in
-        record {
-          ok = p.ok;
-          rest = row.others;
-          total = p.total;
-          ahead = row.then;
-          long = same ∙ p.long;
-          room = omega (arith, room_now);
-          left = ap (over n' after) e ∙ over_over n n' now after values (omega (arith, room_now)) f ∙ ap (λ (l : List ℤ). over n l values) (sym more) ∙ p.left;
-        }
+      pub putting_more : Putting sheet model values₀ (set values n (read_of own r map model)) (n + 1) (r + 1)
+      putting_more = record {
+        room = rw length-set (omega (arith, p.room, ap length (more true u)));
+        left = over-set n (read_of own r map model) (settings_from sheet model (r + 1)) values putting_room ∙ rw (more true u) at p.left;
+      }

@@ -1,3 +1,3 @@
--- What decoding answers, and what its loop asks and leaves. Assumes nothing.
-pub mod Decoded
-pub mod Settings
+-- What decoding answers, and what it reads the settings of. Assumes nothing.
+pub mod Tried
+pub mod Written

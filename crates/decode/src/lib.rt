@@ -2,19 +2,25 @@
 // anything is written, 19 over the slots that were written, and only then are the settings written.
 #![tactic(auto)]
 
-ghost use Rattle.std.specs.Prelude.{◌≡◌, ◌+◌, length};
-ghost use Rattle.sheet.specs.Acceptance.{accept};
+ghost use Rattle.std.specs.Prelude.{◌≡◌, ◌≤◌, length};
 ghost use Rattle.sheet.specs.Calls as Calls;
-ghost use Rattle.sheet.specs.Calls.{decoding, left, sheet_map, sheet_slots, settings_of};
-ghost use Rattle.frame.specs.Frame.{over};
-ghost use Rattle.table.specs.Surveys.{as_survey, InBounds};
-ghost use Rattle.decode.specs.Decoded.{as_decoded};
-ghost use Rattle.decode.specs.Settings.{setting_in, AtRow, Decodable};
+ghost use Rattle.sheet.specs.Calls.{decoding, left, sheet_map, sheet_slots, settings_of, unknown_count};
+ghost use Rattle.frame.specs.Frame.{front};
+ghost use Rattle.decode.specs.Tried.{sheet_tried, outcome_of};
+ghost use Rattle.decode.specs.Written.{Written};
 
-use sheet::Record;
-use table::answer::Survey;
+use sheet::{Reason, Refusal};
+use table::Sheet;
 
-// The survey of a table that a model is to be decoded for: refusals 1 to 13 and 16 to 18.
+// An accepted table on whose clauses a model was tried: the first one that it makes false, from 1, if there is one.
+#[derive(Drop)]
+pub struct Tried {
+    pub sheet: Sheet,
+    pub false_clause: Option<usize>,
+}
+
+// The sheet of a table that a model is to be decoded for: refusals 1 to 13 and 16 to 18.
+#[tactic(auto, unfolding(sheet::specs::Calls::decodable))]
 pub fn decodable(
     table: &[u8],
     records: usize,
@@ -22,73 +28,42 @@ pub fn decodable(
     slots: usize,
     model: &[u8],
     values: usize,
-) -> Survey
-    ensures answer { result ≡ as_survey (Calls.decodable table.now records map slots model.now values) }
-    ensures bounds { InBounds result }
+) -> Result<Sheet, Refusal>
+    ensures { result ≡ Calls.decodable table.now records map slots model.now values }
 {
-    let s = write::fitting(table, records, map, slots);
-    if s.number != 0 {
-        return s;
-    }
-    let counts = s.counts;
+    let sheet = write::fitting(table, records, map, slots)?;
+    let counts = sheet.counts();
     let variables = counts.variables as usize;
     if model.len() != variables {
-        return table::refused(16, variables);
+        return Err(Reason::ModelLength.at(variables));
     }
-    let i = assign::first_not_bit(model);
-    if i < model.len() {
-        return table::refused(17, i);
+    if let Some(i) = assign::first_not_bit(model) {
+        return Err(Reason::NotABit.at(i));
     }
     let unknowns = counts.unknowns as usize;
     if values < unknowns {
-        return table::refused(18, unknowns);
+        return Err(Reason::ShortBuffer.at(unknowns));
     }
-    s
+    Ok(sheet)
 }
 
-// The setting of row r, if it is an unknown, at place n; answers the next place. Its page in the map is behind those of r rows.
-fn put_setting(
-    table: &[u8],
-    r: usize,
-    of: Record,
-    map: &[i32],
-    model: &[u8],
-    values: &mut [i64],
-    n: usize,
-) -> usize
-    requires { AtRow table.now r of map.now (length model.now) n (length values.old) }
-    ensures values { values.new ≡ over n (setting_in table.now r of map.now model.now) values.old }
-    ensures next { result ≡ n + length (setting_in table.now r of map.now model.now) }
+// The settings of the unknowns of an accepted table, in row order, each from its page of the literal map.
+fn put_settings(sheet: &Sheet, map: &[i32], model: &[u8], values: &mut [i64])
+    requires written { Written sheet.now map.now model.now }
+    requires room { unknown_count sheet.now ≤ length values.old }
+    ensures { values.new ≡ front (settings_of model.now sheet.now) values.old }
 {
-    if unknown::asked_at(table, r) == 0 {
-        return n;
-    }
-    let at = literal_map::places(r);
-    values[n] = bits::setting(of, &map[at..], model);
-    n + 1
-}
-
-// The settings of the unknowns of an accepted table, in row order, from its literal map.
-fn put_settings(
-    table: &[u8],
-    rows: usize,
-    records: [Record; 256],
-    map: &[i32],
-    model: &[u8],
-    values: &mut [i64],
-)
-    requires { Decodable table.now rows records map.now model.now (length values.old) }
-    ensures { values.new ≡ left (accept table.now) (settings_of model.now) values.old }
-{
+    let records = sheet.records();
     let mut n = 0;
-    let mut r = 0;
-    while r < rows {
-        n = put_setting(table, r, records[r], map, model, values, n);
-        r += 1;
+    for (r, f) in sheet.rows().iter().enumerate() {
+        if unknown::is_unknown(f.kind) {
+            values[n] = bits::setting(records[r], &map[literal_map::places(r)..], model);
+            n += 1;
+        }
     }
 }
 
-// Decodes a model, or refuses. At 19 the map and the slots are as writing leaves them; at every other refusal nothing is changed.
+// Decodes a model, or refuses. Where a clause is false the map and the slots are as writing leaves them; at a refusal nothing is changed.
 // The records are in the answer; as many are to be lent as there are rows.
 pub fn decode_core(
     table: &[u8],
@@ -97,31 +72,22 @@ pub fn decode_core(
     slots: &mut [i32],
     model: &[u8],
     values: &mut [i64],
-) -> Survey
-    ensures answer { result ≡ as_decoded (Calls.decodable table.now records (length map.old) (length slots.old) model.now (length values.old)) (decoding table.now records (length map.old) (length slots.old) model.now (length values.old)) }
-    ensures bounds { InBounds result }
+) -> Result<Tried, Refusal>
+    ensures sheet { sheet_tried result ≡ Calls.decodable table.now records (length map.old) (length slots.old) model.now (length values.old) }
+    ensures answer { outcome_of result ≡ decoding table.now records (length map.old) (length slots.old) model.now (length values.old) }
     ensures map { map.new ≡ left (Calls.decodable table.now records (length map.old) (length slots.old) model.now (length values.old)) sheet_map map.old }
     ensures slots { slots.new ≡ left (Calls.decodable table.now records (length map.old) (length slots.old) model.now (length values.old)) sheet_slots slots.old }
     ensures values { values.new ≡ left (decoding table.now records (length map.old) (length slots.old) model.now (length values.old)) (settings_of model.now) values.old }
 {
-    let s = decodable(table, records, map.len(), slots.len(), model, values.len());
-    if s.number != 0 {
-        return s;
+    let sheet = decodable(table, records, map.len(), slots.len(), model, values.len())?;
+    write::write_table(&sheet, map, slots);
+    let written = sheet.counts().slots as usize;
+    let false_clause = assign::first_false(&slots[..written], model);
+    if false_clause.is_none() {
+        put_settings(&sheet, map, model, values);
     }
-    let kept = s.records;
-    let counts = s.counts;
-    write::write_table(table, s.rows, kept, map, slots);
-    let written = counts.slots as usize;
-    let clause = assign::first_false(&slots[..written], model);
-    if clause != 0 {
-        return Survey {
-            number: 19,
-            place: clause,
-            rows: s.rows,
-            records: kept,
-            counts,
-        };
-    }
-    put_settings(table, s.rows, kept, map, model, values);
-    s
+    Ok(Tried {
+        sheet,
+        false_clause,
+    })
 }

@@ -1,31 +1,51 @@
--- The rows of a table evaluated one after the other: what the loop knows, a row more, and the end. Assumes nothing.
-use mathlib.Core.Path.{◌≡◌, refl, sym, ap, ◌∙◌, subst}
-use mathlib.Core.List.{List, [], ◌∷◌, ◌++◌, map}
-use Prim.Native.Nat.{ℕ, zero, suc, ◌+◌, ◌≤◌, ◌<◌, min}
-use native.Mathlib.Omega.{arith}
-use lib.IntN.{ℤ, pos}
-use lib.ListN.{length, get_or, set, take, drop, length-append, length-map}
+-- The rows of an accepted sheet evaluated one after the other: what the loop knows, a row more, and the end. Assumes nothing.
+use Rattle.std.proofs.Common.{◌≡◌, false, refl, sym, ap, ◌∙◌, List, [], ◌∷◌, ◌++◌, map, ℕ, ◌+◌, ◌≤◌, ◌<◌, min, length, get_or, take, drop, ℤ, pos, arith}
+use lib.ListN.{set, length-append, length-map, get_or-append, get_or-map, drop_of_length-le}
+use Rattle.std.proofs.lemmas.List.{map-append}
 use lib.Seq.{drop-drop, length-take-le}
+use mir.Facts.{to_z-of_z}
+use mir.Syntax.{w64}
+use mir.Val.{SFits, to_z, of_z}
 use Rattle.whole.specs.Bits.{bit}
-use Rattle.circuit.specs.declared.Counts.{Counts}
 use Rattle.sheet.specs.declared.Fields.{Fields}
 use Rattle.sheet.specs.declared.Record.{Record}
-use Rattle.sheet.specs.Rows.{rows_of, uses, is_unknown}
-use Rattle.sheet.specs.Values.{Value, numerator, value_at, row_val, values_from, row_values, Within}
-use Rattle.sheet.specs.Acceptance.{record_at}
-use Rattle.sheet.proofs.Accepted.{Passes}
-use Rattle.sheet.proofs.Walked.{Ahead, Row, ahead_row}
+use Rattle.sheet.specs.declared.References.{References}
+use Rattle.sheet.specs.Rows.{uses, is_unknown}
+use Rattle.sheet.specs.Values.{Value, boolean, numerator, value_at, row_val, values_from, row_values, Chosen}
+use Rattle.sheet.specs.Acceptance.{Sheet}
 use Rattle.sheet.proofs.Widths.{AllHold, all_hold_snoc, row_fits}
 use Rattle.promise.proofs.Choices.{first, AllIn, within_all}
 use Rattle.frame.specs.Frame.{front}
 use Rattle.frame.proofs.Frames.{length_over, over_none, over_zero, over-set, front_then}
-use Rattle.table.proofs.Earlier.{zeros}
+use Rattle.unknown.proofs.Taken.{bit_most, next_value}
+use Rattle.table.specs.Accepted.{Accepted}
+use Rattle.table.specs.Surveys.{places_of}
+use Rattle.table.proofs.Rowwise.{zeros, no_fields, earlier_record, as_many, Row, row}
 use Rattle.row_value.specs.declared.Operand.{Operand}
 use Rattle.row_value.specs.Operands.{row_over, Ready}
 use Rattle.row_value.proofs.Accepting.{OperandAt, row_ready, row_value}
-use Rattle.unknown.proofs.Taken.{bit_most, next_value}
-use Rattle.table.proofs.Rowwise.{all_read, all_ahead, record_at_lem, none_left}
-use Rattle.evaluate.specs.Evaluable.{Evaluable}
+
+-- r rows are evaluated, and took i values
+pub record Filling (sheet : Sheet) (values results₀ results : List ℤ) (i r : ℕ) : Type 0 where
+  pub earlier : List Value
+  pub many : length earlier ≡ r
+  pub hold : AllHold (take r sheet.records) earlier
+  pub inside : AllIn (drop r sheet.rows) (drop i values)
+  pub taken : i ≤ r
+  pub same : values_from earlier (drop r sheet.rows) (drop i values) ≡ row_values sheet.rows values
+  pub done : results ≡ front (map numerator earlier) results₀
+
+pub filling_none : {sheet : Sheet} {values results : List ℤ} → Chosen sheet.rows values → Filling sheet values results results 0 0
+unfolding row_values front
+filling_none {sheet} {values} chosen = record {
+  earlier = [];
+  many = refl;
+  hold = tt;
+  inside = within_all sheet.rows values chosen.within;
+  taken = omega arith;
+  same = refl;
+  done = refl;
+}
 
 -- ---- what is written over the front
 
@@ -38,113 +58,76 @@ front-set us l n x e h =
 
 numerator_at : (vs : List Value) (l : List ℤ) (x : ℕ) → x < length vs → get_or (front (map numerator vs) l) x (pos 0) ≡ numerator (value_at vs x)
 unfolding front
-numerator_at vs l x h = by vs x h (drop (length (map numerator vs)) l)
-  where
-    by : (vs : List Value) (x : ℕ) → x < length vs → (k : List ℤ) → get_or (map numerator vs ++ k) x (pos 0) ≡ numerator (value_at vs x)
-    by [] x h k = absurd (omega arith)
-    by (v ∷ vs) zero h k = refl
-    by (v ∷ vs) (suc x) h k = by vs x (omega arith) k
+numerator_at vs l x h = get_or-append (map numerator vs) _ (pos 0) x (rw length-map h) ∙ get_or-map numerator vs x (boolean false)
 
-map_snoc : (vs : List Value) (v : Value) → map numerator vs ++ numerator v ∷ [] ≡ map numerator (vs ++ v ∷ [])
-map_snoc [] v = refl
-map_snoc (w ∷ vs) v = ap (λ (l : List ℤ). numerator w ∷ l) (map_snoc vs v)
+-- ---- the rows that a row refers to, as the loop reads them
 
--- r rows are evaluated, and took i values
-pub record Filling (table : List ℕ) (rows : ℕ) (records : List Record) (values results₀ results : List ℤ) (i r : ℕ) : Type 0 where
-  pub ok : Evaluable table rows records values (length results₀)
-  pub rest : List Fields
-  pub total : Counts
-  pub ahead : Ahead table ok.table_is.sheet.records total rows r rest
-  pub earlier : List Value
-  pub within : r ≤ rows
-  pub many : length earlier ≡ r
-  pub hold : AllHold (take r ok.table_is.sheet.records) earlier
-  pub inside : AllIn rest (drop i values)
-  pub taken : i ≤ r
-  pub same : values_from earlier rest (drop i values) ≡ row_values (rows_of rows table) values
-  pub done : results ≡ front (map numerator earlier) results₀
+abbrev pub operand : (results : List ℤ) (records : List Record) (place : ℕ) → Operand
+operand results records place = record { numerator = to_z w64 (of_z w64 (get_or results place (pos 0))); denominator = (get_or records place zeros).denominator }
 
-pub filling_none : {table : List ℕ} {rows : ℕ} {records : List Record} {values results : List ℤ} → Evaluable table rows records values (length results)
-    → Filling table rows records values results results 0 0
-unfolding row_values front
-filling_none {table} {rows} {values = values} ok = record {
-  ok = ok;
-  rest = rows_of rows table;
-  total = _;
-  ahead = all_ahead ok.table_is;
-  earlier = [];
-  within = omega arith;
-  many = refl;
-  hold = tt;
-  inside = within_all (rows_of rows table) values (subst (λ (fs : List Fields). Within fs values) (all_read ok.table_is) ok.chosen.within);
-  taken = omega arith;
-  same = refl;
-  done = refl;
-}
+abbrev pub operands : (results : List ℤ) (records : List Record) (at : References ℕ) → References Operand
+operands results records at = record { x = operand results records at.x; y = operand results records at.y; z = operand results records at.z }
 
-module _ {table : List ℕ} {rows : ℕ} {records : List Record} {values results₀ results : List ℤ} {i r : ℕ} (p : Filling table rows records values results₀ results i r) where
+pub record Words (results : List ℤ) (at : References ℕ) : Type 0 where
+  pub x : SFits w64 (get_or results at.x (pos 0))
+  pub y : SFits w64 (get_or results at.y (pos 0))
+  pub z : SFits w64 (get_or results at.z (pos 0))
+
+module _ {sheet : Sheet} {values results₀ results : List ℤ} {i r : ℕ} (p : Filling sheet values results₀ results i r) where
   -- all rows are evaluated
-  pub filling_end : rows ≤ r → results ≡ front (map numerator (row_values (rows_of rows table) values)) results₀
+  pub filling_end : length sheet.rows ≤ r → results ≡ front (map numerator (row_values sheet.rows values)) results₀
   filling_end h =
-      let e = none_left p.rest (omega (arith, p.ahead.left)) in
-      let all : p.earlier ≡ row_values (rows_of rows table) values = rw e at p.same in
+      let none : drop r sheet.rows ≡ [] = drop_of_length-le sheet.rows h in
+      let all : p.earlier ≡ row_values sheet.rows values = rw none at p.same in
       rw (sym all) p.done
 
-  pub filling_long : length results ≡ length results₀
-  filling_long = ap length p.done ∙ length_front (map numerator p.earlier) results₀ (rw length-map (omega (arith, p.many, p.within, p.ok.fits)))
-
   -- row r is next
-  module _ (h : r < rows) where
+  module _ (a : Accepted sheet) (room : length sheet.rows ≤ length results₀) (h : r < length sheet.rows) {f : Fields} (is : f ≡ get_or sheet.rows r no_fields)
+      {records : List Record} (same : records ≡ sheet.records) {at : References ℕ} (placed : at ≡ places_of r f) (words : Words results at) where
+    abbrev of : References Operand
+    of = operands results records at
+
     abbrev before : List Record
-    before = take r p.ok.table_is.sheet.records
+    before = take r sheet.records
 
-    pub filling_row : Row table p.ok.table_is.sheet.records p.total rows r p.rest
-    filling_row = ahead_row table p.ok.table_is.sheet.records p.total rows r p.rest h p.ahead
+    is_row : Row sheet r f
+    is_row = rw is (row a r no_fields h)
 
-    -- what is read of the row x, if it is earlier
-    pub filling_operand : (x : ℕ) {j : ℕ} {o : Operand} → j ≡ min x r → o.numerator ≡ get_or results j (pos 0) → o.denominator ≡ (get_or records j zeros).denominator → x < length before
-        → OperandAt before p.earlier x o
-    filling_operand x {j} {o} q n d k =
-        let m : length p.ok.table_is.sheet.records ≡ rows = p.ok.table_is.many in
-        let l : x < r = omega (arith, k, length-take-le r p.ok.table_is.sheet.records (omega arith)) in
+    operand_at : (x : ℕ) {j : ℕ} → j ≡ min x r → SFits w64 (get_or results j (pos 0)) → x < length before → OperandAt before p.earlier x (operand results records j)
+    operand_at x {j} q fits k =
+        let l : x < r = omega (arith, k, length-take-le r sheet.records (omega (arith, as_many a))) in
         let e : j ≡ x = omega arith in
         record {
-          is_numerator = rw (e, p.done) at n ∙ numerator_at p.earlier results₀ x (omega (arith, p.many));
-          is_denominator = rw e at d ∙ ap (λ (q : Record). q.denominator) (record_at_lem p.ok.table_is r x (omega arith) l);
+          is_numerator = to_z-of_z fits ∙ rw (e, p.done) (numerator_at p.earlier results₀ x (omega (arith, p.many)));
+          is_denominator = rw (same, q) (ap (λ (o : Record). o.denominator) (earlier_record sheet.records r x zeros (omega (arith, as_many a)) l));
         }
 
-    -- the row is ready; when it is evaluated, one row more is
-    module _ {f : Fields} (e : filling_row.fields ≡ f) {a b c : Operand}
-        (at_x : f.x < length before → OperandAt before p.earlier f.x a) (at_y : f.y < length before → OperandAt before p.earlier f.y b)
-        (at_z : f.z < length before → OperandAt before p.earlier f.z c) where
-      passes : Passes before filling_row.at f (record_at p.ok.table_is.sheet.records r) filling_row.counts
-      passes = subst (λ (g : Fields). Passes before filling_row.at g (record_at p.ok.table_is.sheet.records r) filling_row.counts) e filling_row.passes
+    at_x : f.x < length before → OperandAt before p.earlier f.x of.x
+    at_x = operand_at f.x (ap (λ (o : References ℕ). o.x) placed) words.x
 
-      pub filling_ready : Ready f.kind a b c
-      filling_ready = row_ready before p.earlier p.hold a b c filling_row.at f _ _ passes at_x at_y at_z
+    at_y : f.y < length before → OperandAt before p.earlier f.y of.y
+    at_y = operand_at f.y (ap (λ (o : References ℕ). o.y) placed) words.y
 
-      split : p.rest ≡ f ∷ filling_row.others
-      split = filling_row.split ∙ ap (λ (g : Fields). g ∷ filling_row.others) e
+    at_z : f.z < length before → OperandAt before p.earlier f.z of.z
+    at_z = operand_at f.z (ap (λ (o : References ℕ). o.z) placed) words.z
 
-      pub filling_next : {n : ℤ} → n ≡ numerator (row_over a b c f (get_or values i (pos 0)))
-          → Filling table rows records values results₀ (set results r n) (i + bit (is_unknown (uses f.kind))) (r + 1)
-      filling_next {n} g =
-          let u = is_unknown (uses f.kind) in
-          let v = row_val p.earlier f (first (drop i values)) in
-          let is : n ≡ numerator v = g ∙ ap (λ (w : ℤ). numerator (row_over a b c f w)) (sym (next_value values i)) ∙ ap numerator (row_value before p.earlier p.hold a b c filling_row.at f _ _ passes at_x at_y at_z (first (drop i values))) in
-          let d = drop-drop (bit u) i values in
-          let all = subst (λ (fs : List Fields). AllIn fs (drop i values)) split p.inside in
-          record {
-            ok = p.ok;
-            rest = filling_row.others;
-            total = p.total;
-            ahead = filling_row.then;
-            earlier = p.earlier ++ v ∷ [];
-            within = omega arith;
-            many = length-append p.earlier (v ∷ []) ∙ omega (arith, p.many);
-            hold = rw filling_row.front (all_hold_snoc before p.earlier _ v p.hold (row_fits before p.earlier p.hold filling_row.at f _ _ passes (first (drop i values)) all.0));
-            inside = rw (sym d) all.1;
-            taken = omega (arith, p.taken, bit_most u);
-            same = rw (sym d) (ap (λ (fs : List Fields). values_from p.earlier fs (drop i values)) (sym split) ∙ p.same);
-            done = rw (p.done, is) (front-set (map numerator p.earlier) results₀ r (numerator v) (sym (length-map p.earlier numerator ∙ p.many)) (omega (arith, p.ok.fits)) ∙ ap (λ (l : List ℤ). front l results₀) (map_snoc p.earlier v));
-          }
+    pub filling_ready : Ready f.kind of
+    filling_ready = row_ready before p.earlier p.hold of is_row.at f _ _ is_row.passes at_x at_y at_z
+
+    pub filling_next : {n : ℤ} → n ≡ numerator (row_over of f (get_or values i (pos 0))) → Filling sheet values results₀ (set results r n) (i + bit (is_unknown (uses f.kind))) (r + 1)
+    filling_next {n} g =
+        let v = row_val p.earlier f (first (drop i values)) in
+        let next : first (drop i values) ≡ get_or values i (pos 0) = next_value values i in
+        let value = row_value before p.earlier p.hold of is_row.at f _ _ is_row.passes at_x at_y at_z (first (drop i values)) in
+        let number : n ≡ numerator v = g ∙ ap (λ (w : ℤ). numerator (row_over of f w)) (sym next) ∙ ap numerator value in
+        let d = drop-drop (bit (is_unknown (uses f.kind))) i values in
+        let all = rw is_row.ahead at p.inside in
+        record {
+          earlier = p.earlier ++ v ∷ [];
+          many = length-append p.earlier (v ∷ []) ∙ omega (arith, p.many);
+          hold = rw is_row.front (all_hold_snoc before p.earlier _ v p.hold (row_fits before p.earlier p.hold is_row.at f _ _ is_row.passes (first (drop i values)) all.0));
+          inside = rw (sym d) all.1;
+          taken = omega (arith, p.taken, bit_most (is_unknown (uses f.kind)));
+          same = rw (sym d) (ap (λ (fs : List Fields). values_from p.earlier fs (drop i values)) (sym is_row.ahead) ∙ p.same);
+          done = rw (p.done, number) (front-set (map numerator p.earlier) results₀ r (numerator v) (sym (length-map p.earlier numerator ∙ p.many)) (omega arith) ∙ ap (λ (l : List ℤ). front l results₀) (sym (map-append numerator p.earlier (v ∷ []))));
+        }

@@ -1,3 +1,3 @@
--- The rows evaluated one by one, and what evaluating answers. Assumes nothing.
+-- The loop over the rows, and what is known where values are chosen. Assumes nothing.
 pub mod Filling
 pub mod Evaluating

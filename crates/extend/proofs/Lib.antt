@@ -1,5 +1,5 @@
 -- The laws of bits put into a model. Assumes nothing.
+pub mod Words
 pub mod Putting
-pub mod Places
 pub mod Turns
-pub mod Totals
+pub mod Rows

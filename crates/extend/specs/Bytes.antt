@@ -1,13 +1,16 @@
--- Bits put into a model, a byte a bit, from a place on. Assumes nothing.
-use Rattle.std.specs.Prelude.{◌≡◌, Bool, List, map, ℕ, ◌+◌, ◌≤◌, length}
+-- Bits put into a model, a byte a bit. Assumes nothing.
+use Rattle.std.specs.Prelude.{◌≡◌, Bool, List, map, ◌+◌, ◌≤◌, length}
 use Rattle.whole.specs.Bits.{bit}
 use Rattle.frame.specs.Frame.{over}
+use Rattle.extend.specs.declared.PartialModel.{PartialModel}
 
--- from the place `at` on there are bytes for the bits
-pub record Room (at : ℕ) (bs : List Bool) (model : List ℕ) : Type 0 where
-  pub place : at + length bs ≤ length model
+-- there are bytes for the bits
+pub record Room (bs : List Bool) (model : PartialModel) : Type 0 where
+  pub place : model.at + length bs ≤ length model.bytes.now
 
--- the bits stand in the bytes from the place `at` on, and `next` is the place behind them
-pub record Put (at : ℕ) (bs : List Bool) (before after : List ℕ) (next : ℕ) : Type 0 where
-  pub model : after ≡ over at (map bit bs) before
-  pub place : next ≡ at + length bs
+-- the bits are put, into the same bytes
+pub record Put (bs : List Bool) (before after : PartialModel) : Type 0 where
+  pub bits : after.bytes.now ≡ over before.at (map bit bs) before.bytes.now
+  pub place : after.at ≡ before.at + length bs
+  pub kept : length after.bytes.now ≡ length before.bytes.now
+  pub lent : after.bytes.ghost_name ≡ before.bytes.ghost_name

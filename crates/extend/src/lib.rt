@@ -1,279 +1,206 @@
-// What each gate holds, from exact numbers, put into a model's bytes: 0 or 1, a byte a gate, in order of making. Every function puts from
-// the place `at` on, and tells the next place if it is public.
+// What each gate holds, from exact numbers, put into a model's bytes: 0 or 1, a byte a gate, in order of making.
 #![tactic(auto)]
 
-ghost use Rattle.std.specs.Prelude.{◌≡◌, true, false, not, ◌&&◌, [], ◌∷◌, ◌++◌, ◌+◌, ◌≤◌, eqb, pos, ◌*ℤ◌};
-ghost use Rattle.whole.specs.Tests.{if◌then◌otherwise◌};
+ghost use Rattle.std.specs.Prelude.{◌≡◌, true, false, not, ◌&&◌, [], ◌∷◌, ◌++◌, ◌≤◌, pos, ◌*ℤ◌};
 ghost use Rattle.whole.specs.Bits.{Fits, odd, half, bits_of};
 ghost use Rattle.circuit.specs.Gates.{xor_of, mux_of, maj_of};
 ghost use Rattle.circuit.specs.Counting.{expanded_width};
-ghost use Rattle.trace.specs.Traces.{adding, row_of, adding_rows, multiplying, expanding, exceeding, equalling, turned};
+ghost use Rattle.trace.specs.Traces.{adding, row_of, adding_rows, multiplying, expanding, exceeding, equalling};
 ghost use Rattle.extend.specs.Bytes.{Room, Put};
+ghost use Rattle.extend.specs.Places.{sum_place, order_place, match_place};
 
-pub fn both(a: bool, b: bool) -> bool
-    ensures { result ≡ (a && b) }
-{
-    if a { b } else { false }
+// A model's bytes, of which those before the place `at` are put.
+#[derive(Drop)]
+pub struct PartialModel<'a> {
+    pub bytes: &'a mut [u8],
+    pub at: usize,
 }
 
-pub fn differ(a: bool, b: bool) -> bool
-    ensures { result ≡ xor_of a b }
-{
-    if a { !b } else { b }
+// A number expanded: its numerator and its width.
+#[derive(Clone, Copy)]
+pub struct Expanded {
+    pub numerator: i64,
+    pub width: u32,
 }
 
-fn chosen(c: bool, a: bool, b: bool) -> bool
-    ensures { result ≡ mux_of c a b }
+// The lowest bit.
+fn odd(v: i64) -> bool
+    ensures { result ≡ odd v }
 {
-    if c { a } else { b }
-}
-
-fn most(a: bool, b: bool, c: bool) -> bool
-    ensures { result ≡ maj_of a b c }
-{
-    if a {
-        return if b { true } else { c };
-    }
-    if b { c } else { false }
+    v & 1 == 1
 }
 
 // What is above the lowest bit.
-fn upper(v: i64) -> i64
+fn half(v: i64) -> i64
     ensures { result ≡ half v }
 {
     v >> 1
 }
 
-// The lowest bit.
-fn lowest(v: i64) -> bool
-    ensures { result ≡ odd v }
+// Whether two of three hold.
+fn majority(a: bool, b: bool, c: bool) -> bool
+    ensures { result ≡ maj_of a b c }
 {
-    v % 2 != 0
-}
-
-// One bit.
-pub fn put(model: &mut [u8], at: usize, v: bool) -> usize
-    requires { Room at (v ∷ []) model.old }
-    ensures { Put at (v ∷ []) model.old model.new result }
-{
-    model[at] = v as u8;
-    at + 1
-}
-
-// The lowest w bits of v.
-pub fn put_bits(model: &mut [u8], at: usize, w: u32, v: i64) -> usize
-    requires { Room at (bits_of w v) model.old }
-    ensures { Put at (bits_of w v) model.old model.new result }
-{
-    let mut place = at;
-    let mut rest = v;
-    let mut left = w;
-    while 0 < left {
-        place = put(model, place, lowest(rest));
-        rest = upper(rest);
-        left -= 1;
-    }
-    place
-}
-
-// One place of a sum: x and y differ there, the sum's bit, the new carry, which is the answer.
-fn add_bit(model: &mut [u8], at: usize, x: i64, y: i64, carry: bool) -> bool
-    requires { Room at (adding carry 1 x y) model.old }
-    ensures bits { Put at (adding carry 1 x y) model.old model.new (at + 3) }
-    ensures carry { result ≡ maj_of (odd x) (odd y) carry }
-{
-    let a = lowest(x);
-    let b = lowest(y);
-    let c = most(a, b, carry);
-    let d = differ(a, b);
-    model[at] = d as u8;
-    model[at + 1] = differ(d, carry) as u8;
-    model[at + 2] = c as u8;
-    c
-}
-
-// The sum of x, y and the carry in w places.
-pub fn add(model: &mut [u8], at: usize, w: u32, x: i64, y: i64, carry: bool) -> usize
-    requires { Room at (adding carry w x y) model.old }
-    ensures { Put at (adding carry w x y) model.old model.new result }
-{
-    let mut place = at;
-    let mut a = x;
-    let mut b = y;
-    let mut c = carry;
-    let mut left = w;
-    while 0 < left {
-        c = add_bit(model, place, a, b, c);
-        place += 3;
-        a = upper(a);
-        b = upper(b);
-        left -= 1;
-    }
-    place
-}
-
-// -1 - v, whose bits are those of v turned.
-pub fn turn(v: i64) -> i64
-    requires { Fits 48 v }
-    ensures { result ≡ turned v }
-{
-    -1 - v
+    if a { b || c } else { b && c }
 }
 
 // x where the lowest bit of y is 1.
-fn row(x: i64, y: i64) -> i64
+fn masked(x: i64, y: i64) -> i64
     ensures { result ≡ row_of x y }
 {
-    if lowest(y) { x } else { 0 }
+    if odd(y) { x } else { 0 }
 }
 
-// One row of a product, and its sum with the total so far.
-fn add_row(model: &mut [u8], at: usize, w: u32, total: i64, row: i64) -> usize
-    requires { Room at (bits_of w row ++ adding false w total row) model.old }
-    ensures { Put at (bits_of w row ++ adding false w total row) model.old model.new result }
-{
-    let next = put_bits(model, at, w, row);
-    add(model, next, w, total, row, false)
-}
-
-// The rows of y's further bits, w places each and one fewer with every row, added to the total.
-fn add_rows(model: &mut [u8], at: usize, w: u32, x: i64, y: i64, total: i64) -> usize
-    requires fits_x { Fits 48 x }
-    requires fits_total { Fits 49 total }
-    requires room { Room at (adding_rows w x y total) model.old }
-    ensures { Put at (adding_rows w x y total) model.old model.new result }
-{
-    let mut place = at;
-    let mut rest = y;
-    let mut so_far = total;
-    let mut left = w;
-    while 0 < left {
-        let r = row(x, rest);
-        let t = upper(so_far);
-        place = add_row(model, place, left, t, r);
-        so_far = arithmetic::sum(t, r);
-        rest = upper(rest);
-        left -= 1;
+impl PartialModel<'_> {
+    // One bit.
+    pub fn put(&mut self, v: bool)
+        requires { Room (v ∷ []) self.old }
+        ensures { Put (v ∷ []) self.old self.new }
+    {
+        self.bytes[self.at] = u8::from(v);
+        self.at += 1;
     }
-    place
-}
 
-// The product of x and y in w places.
-pub fn multiply(model: &mut [u8], at: usize, w: u32, x: i64, y: i64) -> usize
-    requires w_least { 1 ≤ w }
-    requires fits_x { Fits 48 x }
-    requires room { Room at (multiplying w x y) model.old }
-    ensures { Put at (multiplying w x y) model.old model.new result }
-{
-    let first = row(x, y);
-    let next = put_bits(model, at, w, first);
-    add_rows(model, next, w - 1, x, upper(y), first)
-}
+    // The lowest w bits of v.
+    pub fn put_bits(&mut self, w: u32, mut v: i64)
+        requires { Room (bits_of w v) self.old }
+        ensures { Put (bits_of w v) self.old self.new }
+    {
+        for _ in 0..w {
+            self.put(odd(v));
+            v = half(v);
+        }
+    }
 
-// A number expanded: its numerator, its width, and the next place.
-#[derive(Clone, Copy)]
-pub struct Expanded {
-    pub numerator: i64,
-    pub width: u32,
-    pub at: usize,
-}
+    // One place of a sum; the answer is its carry.
+    #[tactic(auto, using(crate::proofs::Putting::put_three, crate::proofs::Putting::differ_is))]
+    fn put_sum(&mut self, a: bool, b: bool, carry: bool) -> bool
+        requires { Room (sum_place a b carry) self.old }
+        ensures bits { Put (sum_place a b carry) self.old self.new }
+        ensures carry { result ≡ maj_of a b carry }
+    {
+        let carried = majority(a, b, carry);
+        self.put(a != b);
+        self.put((a != b) != carry);
+        self.put(carried);
+        carried
+    }
 
-// A number of so many bits multiplied by a factor, unless that is 1.
-pub fn expand(model: &mut [u8], at: usize, width: u32, factor: u32, numerator: i64) -> Expanded
-    requires width_most { width ≤ 48 }
-    requires fits_numerator { Fits 48 numerator }
-    requires fits { Fits 48 (numerator *ℤ pos factor) }
-    requires room { Room at (expanding width factor numerator) model.old }
-    ensures bits { Put at (expanding width factor numerator) model.old model.new result.at }
-    ensures numerator_is { result.numerator ≡ numerator *ℤ pos factor }
-    ensures width_is { result.width ≡ expanded_width width factor }
-{
-    if factor == 1 {
-        return Expanded {
-            numerator,
+    // The sum of x, y and the carry in w places.
+    pub fn add(&mut self, w: u32, mut x: i64, mut y: i64, mut carry: bool)
+        requires { Room (adding carry w x y) self.old }
+        ensures { Put (adding carry w x y) self.old self.new }
+    {
+        for _ in 0..w {
+            carry = self.put_sum(odd(x), odd(y), carry);
+            x = half(x);
+            y = half(y);
+        }
+    }
+
+    // The rows of y's further bits, w places each and one fewer with every row, added to the total.
+    fn add_rows(&mut self, w: u32, x: i64, mut y: i64, mut total: i64)
+        requires fits_x { Fits 48 x }
+        requires fits_total { Fits 49 total }
+        requires room { Room (adding_rows w x y total) self.old }
+        ensures { Put (adding_rows w x y total) self.old self.new }
+    {
+        for left in (1..=w).rev() {
+            let row = masked(x, y);
+            let above = half(total);
+            self.put_bits(left, row);
+            self.add(left, above, row, false);
+            total = above + row;
+            y = half(y);
+        }
+    }
+
+    // The product of x and y in w places.
+    pub fn multiply(&mut self, w: u32, x: i64, y: i64)
+        requires w_least { 1 ≤ w }
+        requires fits_x { Fits 48 x }
+        requires room { Room (multiplying w x y) self.old }
+        ensures { Put (multiplying w x y) self.old self.new }
+    {
+        let first = masked(x, y);
+        self.put_bits(w, first);
+        self.add_rows(w - 1, x, half(y), first);
+    }
+
+    // A number of so many bits multiplied by a factor, unless that is 1.
+    #[tactic(auto, using(crate::proofs::Putting::put_none), unfolding(circuit::specs::Counting::expanded_width))]
+    pub fn expand(&mut self, width: u32, factor: u32, numerator: i64) -> Expanded
+        requires width_most { width ≤ 48 }
+        requires fits_numerator { Fits 48 numerator }
+        requires fits { Fits 48 (numerator *ℤ pos factor) }
+        requires room { Room (expanding width factor numerator) self.old }
+        ensures bits { Put (expanding width factor numerator) self.old self.new }
+        ensures numerator_is { result.numerator ≡ numerator *ℤ pos factor }
+        ensures width_is { result.width ≡ expanded_width width factor }
+    {
+        if factor == 1 {
+            return Expanded { numerator, width };
+        }
+        let factor = i64::from(factor);
+        let width = width + numbers::bits(factor);
+        self.multiply(width, numerator, factor);
+        Expanded {
+            numerator: numerator * factor,
             width,
-            at,
-        };
+        }
     }
-    let w = width + numbers::bits(factor);
-    let next = multiply(model, at, w, numerator, factor as i64);
-    Expanded {
-        numerator: arithmetic::expand(numerator, factor),
-        width: w,
-        at: next,
+
+    // One place of greater: where a and b differ, p decides; the answer is the greater so far.
+    #[tactic(auto, using(crate::proofs::Putting::put_two, crate::proofs::Putting::differ_is))]
+    fn put_order(&mut self, a: bool, b: bool, p: bool, g: bool) -> bool
+        requires { Room (order_place a b p g) self.old }
+        ensures bits { Put (order_place a b p g) self.old self.new }
+        ensures above { result ≡ mux_of (xor_of a b) p g }
+    {
+        let above = if a != b { p } else { g };
+        self.put(a != b);
+        self.put(above);
+        above
     }
-}
 
-// Whose bit decides where x and y differ: x's, and y's at the sign, the last place left.
-fn deciding(left: u32, x: i64, y: i64) -> i64
-    ensures { result ≡ (if eqb left 1 then y otherwise x) }
-{
-    if left == 1 { y } else { x }
-}
-
-// One place of greater: x and y differ there; then the bit of z, else g, which is the answer.
-fn compare_bit(model: &mut [u8], at: usize, x: i64, y: i64, z: i64, g: bool) -> bool
-    requires { Room at (xor_of (odd x) (odd y) ∷ mux_of (xor_of (odd x) (odd y)) (odd z) g ∷ []) model.old }
-    ensures bits { Put at (xor_of (odd x) (odd y) ∷ mux_of (xor_of (odd x) (odd y)) (odd z) g ∷ []) model.old model.new (at + 2) }
-    ensures above { result ≡ mux_of (xor_of (odd x) (odd y)) (odd z) g }
-{
-    let d = differ(lowest(x), lowest(y));
-    let c = chosen(d, lowest(z), g);
-    model[at] = d as u8;
-    model[at + 1] = c as u8;
-    c
-}
-
-// Whether x is above y, in w places.
-pub fn greater(model: &mut [u8], at: usize, w: u32, x: i64, y: i64) -> usize
-    requires { Room at (exceeding false w x y) model.old }
-    ensures { Put at (exceeding false w x y) model.old model.new result }
-{
-    let mut place = at;
-    let mut a = x;
-    let mut b = y;
-    let mut g = false;
-    let mut left = w;
-    while 0 < left {
-        let c = deciding(left, a, b);
-        g = compare_bit(model, place, a, b, c, g);
-        place += 2;
-        a = upper(a);
-        b = upper(b);
-        left -= 1;
+    // Whether x is above y, in w places. At the sign, the last place, y's bit stands in x's place.
+    pub fn greater(&mut self, w: u32, mut x: i64, mut y: i64)
+        requires { Room (exceeding false w x y) self.old }
+        ensures { Put (exceeding false w x y) self.old self.new }
+    {
+        let mut above = false;
+        for left in (0..w).rev() {
+            let (a, b) = (odd(x), odd(y));
+            let p = if left == 0 { b } else { a };
+            above = self.put_order(a, b, p, above);
+            x = half(x);
+            y = half(y);
+        }
     }
-    place
-}
 
-// One place of equal: x and y differ there; e and they do not, which is the answer.
-fn match_bit(model: &mut [u8], at: usize, x: i64, y: i64, e: bool) -> bool
-    requires { Room at (equalling e 1 x y) model.old }
-    ensures bits { Put at (equalling e 1 x y) model.old model.new (at + 2) }
-    ensures same { result ≡ (e && not (xor_of (odd x) (odd y))) }
-{
-    let d = differ(lowest(x), lowest(y));
-    let s = both(e, !d);
-    model[at] = d as u8;
-    model[at + 1] = s as u8;
-    s
-}
-
-// Whether x is equal to y, in w places.
-pub fn equal(model: &mut [u8], at: usize, w: u32, x: i64, y: i64) -> usize
-    requires { Room at (equalling true w x y) model.old }
-    ensures { Put at (equalling true w x y) model.old model.new result }
-{
-    let mut place = at;
-    let mut a = x;
-    let mut b = y;
-    let mut e = true;
-    let mut left = w;
-    while 0 < left {
-        e = match_bit(model, place, a, b, e);
-        place += 2;
-        a = upper(a);
-        b = upper(b);
-        left -= 1;
+    // One place of equal; the answer is the equal so far.
+    #[tactic(auto, using(crate::proofs::Putting::put_two, crate::proofs::Putting::differ_is))]
+    fn put_match(&mut self, a: bool, b: bool, e: bool) -> bool
+        requires { Room (match_place a b e) self.old }
+        ensures bits { Put (match_place a b e) self.old self.new }
+        ensures same { result ≡ (e && not (xor_of a b)) }
+    {
+        let same = e && a == b;
+        self.put(a != b);
+        self.put(same);
+        same
     }
-    place
+
+    // Whether x is equal to y, in w places.
+    pub fn equal(&mut self, w: u32, mut x: i64, mut y: i64)
+        requires { Room (equalling true w x y) self.old }
+        ensures { Put (equalling true w x y) self.old self.new }
+    {
+        let mut same = true;
+        for _ in 0..w {
+            same = self.put_match(odd(x), odd(y), same);
+            x = half(x);
+            y = half(y);
+        }
+    }
 }

@@ -1,71 +1,66 @@
--- The table's rows extended one after the other: what the loop knows, a row more, and the end. Assumes nothing.
+-- The rows of a sheet extended one after the other: what the loop knows, a row more, and the end. Assumes nothing.
 use mathlib.Core.Path.{◌≡◌, refl, sym, ap, ◌∙◌, subst}
 use mathlib.Core.Bool.{Bool, true, false}
 use mathlib.Core.List.{List, [], ◌∷◌, ◌++◌, map}
 use Prim.Native.Nat.{ℕ, ◌+◌, ◌≤◌, ◌<◌, min}
 use native.Mathlib.Omega.{arith}
-use borrow.Author.Tests.{ltb-true, ltb-false}
-use lib.Dec.{ltb}
 use lib.IntN.{ℤ, pos}
-use lib.ListN.{length, get_or, take, drop, get_or-eq_default, get_or-append, get_or-map}
+use lib.ListN.{length, get_or, take, drop, length-map, get_or-append, get_or-map}
 use lib.Seq.{get_or-take, drop-drop, length-take-le}
-use Rattle.whole.specs.Tests.{if◌then◌otherwise◌}
 use Rattle.whole.specs.Bits.{bit}
-use Rattle.circuit.specs.declared.Counts.{Counts}
 use Rattle.sheet.specs.declared.Fields.{Fields}
 use Rattle.sheet.specs.declared.Record.{Record}
-use Rattle.sheet.specs.Rows.{uses, is_unknown, rows_of}
-use Rattle.sheet.specs.Values.{Value, boolean, numerator, value_at, row_val, values_from, row_values, Within}
-use Rattle.sheet.specs.Acceptance.{missing, record_at}
-use Rattle.sheet.proofs.Accepted.{Passes}
-use Rattle.sheet.proofs.Walked.{Ahead, Row, ahead_row}
+use Rattle.sheet.specs.declared.References.{References}
+use Rattle.sheet.specs.Rows.{uses, is_unknown}
+use Rattle.sheet.specs.Values.{Value, boolean, numerator, value_at, row_val, values_from, row_values, Chosen}
+use Rattle.sheet.specs.Acceptance.{Sheet, missing, record_at}
 use Rattle.sheet.proofs.Widths.{AllHold, all_hold_snoc, row_fits}
 use Rattle.promise.proofs.Choices.{AllIn, within_all, new_values, values_new}
+use Rattle.promise.proofs.Evaluated.{rows_many}
 use Rattle.unknown.proofs.Taken.{bit_most, next_value}
-use Rattle.table.proofs.Earlier.{zeros}
-use Rattle.table.proofs.Rowwise.{tells, all_read, all_ahead, record_at_lem, none_left}
-use Rattle.frame.specs.Frame.{front}
-use Rattle.frame.proofs.Frames.{over_zero}
+use Rattle.table.specs.Accepted.{Accepted}
+use Rattle.table.proofs.Rowwise.{as_many, Row}
 use Rattle.trace.specs.Traces.{trace_of, traces_from, traces}
+use Rattle.extend.specs.declared.PartialModel.{PartialModel}
 use Rattle.extend.specs.Bytes.{Room, Put}
-use Rattle.extend.proofs.Putting.{Left, left_all, left_room, left_step, left_none, put_then}
+use Rattle.extend.proofs.Putting.{Left, left_all, left_room, left_step, left_none}
 use Rattle.number_extender.specs.declared.Operand.{Operand}
 use Rattle.row_extender.specs.Ready.{Ready, trace_over}
-use Rattle.extender.specs.Extendable.{Extendable, model_bits}
-use Rattle.extender.specs.Referred.{Referred}
-use Rattle.extender.proofs.Standing.{Stands, stands_value, ready_by}
-use Rattle.extender.proofs.Reading.{trace_front}
+use Rattle.extender.proofs.Standing.{Stands, row_ready, row_trace}
 
--- what the gates of the rows hold, behind truth
-abbrev pub row_bits : (rows : ℕ) → (table : List ℕ) → List Record → (values : List ℤ) → List Bool
-row_bits rows table records values = traces_from (take rows records) [] (rows_of rows table) values
-
--- r rows are extended, and u values are taken
-pub record Walking (table : List ℕ) (rows : ℕ) (records : List Record) (results values : List ℤ) (model₀ model : List ℕ) (at u r : ℕ) : Type 0 where
-  pub ok : Extendable table rows records results values (length model₀)
+-- r rows are extended, and u values are taken; `results` are the rows' numerators
+pub record Walking (sheet : Sheet) (results values : List ℤ) (before model : PartialModel) (u r : ℕ) : Type 0 where
+  pub many : length results ≡ length sheet.rows
   pub taken : u ≤ r
-  pub rest : List Fields
-  pub total : Counts
-  pub ahead : Ahead table ok.evaluable.table_is.sheet.records total rows r rest
   pub earlier : List Value
-  pub hold : AllHold (take r ok.evaluable.table_is.sheet.records) earlier
-  pub inside : AllIn rest (drop u values)
-  pub same : values_from earlier rest (drop u values) ≡ row_values (rows_of rows table) values
-  pub left : Left model₀ 1 (row_bits rows table records values) model at (traces_from ok.evaluable.table_is.sheet.records earlier rest (drop u values))
+  pub hold : AllHold (take r sheet.records) earlier
+  pub inside : AllIn (drop r sheet.rows) (drop u values)
+  pub same : values_from earlier (drop r sheet.rows) (drop u values) ≡ row_values sheet.rows values
+  pub left : Left before (traces sheet.records sheet.rows values) model (traces_from sheet.records earlier (drop r sheet.rows) (drop u values))
 
--- there is room for truth
-pub truth_room : {table : List ℕ} {rows : ℕ} {records : List Record} {results values : List ℤ} {m : List ℕ} → Extendable table rows records results values (length m) → Room 0 (true ∷ []) m
-unfolding model_bits traces
-truth_room ok = record { place = omega (arith, ok.room) }
+-- what is read for row x: what stands at r, whatever that is, if it is not among the r rows before
+pub record At (sheet : Sheet) (results : List ℤ) (r x : ℕ) (o : Operand) : Type 0 where
+  pub is_record : o.record ≡ record_at sheet.records (min x r)
+  pub is_numerator : o.numerator ≡ get_or results (min x r) (pos 0)
 
--- truth, then the rows
-pub all_put : (rows : ℕ) (table : List ℕ) (records : List Record) (values : List ℤ) {m m' m'' : List ℕ} {at next : ℕ} → length (model_bits rows table records values) ≤ length m → Put 0 (true ∷ []) m m' at
-    → Put 1 (row_bits rows table records values) m' m'' next → m'' ≡ front (map bit (model_bits rows table records values)) m
-unfolding model_bits traces
-all_put rows table records values {m} room p q =
-    let e : 1 ≡ 0 + length (true ∷ []) = omega arith in
-    let one : Put 0 (true ∷ []) m _ 1 = record { model = p.model; place = e } in
-    (put_then (true ∷ []) (row_bits rows table records values) (record { place = omega arith }) one q).model ∙ over_zero _ m
+-- truth is put
+module _ (sheet : Sheet) (values : List ℤ) {before : PartialModel} (room : Room (traces sheet.records sheet.rows values) before) where
+  pub truth_room : Room (true ∷ []) before
+  unfolding traces
+  truth_room = left_room (left_all room) (true ∷ []) (traces_from sheet.records [] sheet.rows values) refl
+
+  pub walking_none : {results : List ℤ} {model : PartialModel} → results ≡ map numerator (row_values sheet.rows values) → Chosen sheet.rows values → Put (true ∷ []) before model
+      → Walking sheet results values before model 0 0
+  unfolding row_values traces
+  walking_none e c p = record {
+    many = ap length e ∙ length-map (row_values sheet.rows values) numerator ∙ rows_many sheet.rows values;
+    taken = omega arith;
+    earlier = [];
+    hold = tt;
+    inside = within_all sheet.rows values c.within;
+    same = refl;
+    left = left_step (left_all room) (true ∷ []) (traces_from sheet.records [] sheet.rows values) refl p;
+  }
 
 -- as many values as records
 hold_many : (rs : List Record) (vs : List Value) → AllHold rs vs → length vs ≡ length rs
@@ -74,131 +69,72 @@ hold_many [] (v ∷ vs) h = absurd h
 hold_many (r ∷ rs) [] h = absurd h
 hold_many (r ∷ rs) (v ∷ vs) h = omega (arith, hold_many rs vs h.1)
 
-module _ (table : List ℕ) (rows : ℕ) (records : List Record) (results values : List ℤ) (model₀ : List ℕ) (ok : Extendable table rows records results values (length model₀)) where
-  abbrev all : List Fields
-  all = rows_of rows table
-
-  room : Room 1 (row_bits rows table records values) model₀
-  unfolding model_bits traces
-  room = record { place = omega (arith, ok.room) }
-
-  pub walking_none : Walking table rows records results values model₀ model₀ 1 0 0
-  unfolding row_values
-  walking_none =
-      let known = ok.evaluable.table_is in
-      record {
-        ok = ok;
-        taken = omega arith;
-        rest = all;
-        total = (tells known).total;
-        ahead = all_ahead known;
-        earlier = [];
-        hold = tt;
-        inside = within_all all values (subst (λ (fs : List Fields). Within fs values) (all_read known) ok.evaluable.chosen.within);
-        same = refl;
-        left = rw (sym known.held) (left_all room);
-      }
-
-module _ {table : List ℕ} {rows : ℕ} {records : List Record} {results values : List ℤ} {model₀ model : List ℕ} {at u r : ℕ} (p : Walking table rows records results values model₀ model at u r) where
-  abbrev sheet_records : List Record
-  sheet_records = p.ok.evaluable.table_is.sheet.records
-
+module _ {sheet : Sheet} (a : Accepted sheet) {results values : List ℤ} {before model : PartialModel} {u r : ℕ} (p : Walking sheet results values before model u r) where
   -- all rows are extended
-  pub walking_end : rows ≤ r → Put 1 (row_bits rows table records values) model₀ model at
-  walking_end h =
-      let e = none_left p.rest (omega (arith, p.ahead.left)) in
-      left_none p.left (ap (λ (fs : List Fields). traces_from sheet_records p.earlier fs (drop u values)) e)
+  pub walking_end : drop r sheet.rows ≡ [] → Put (traces sheet.records sheet.rows values) before model
+  walking_end e = left_none p.left (ap (λ (fs : List Fields). traces_from sheet.records p.earlier fs (drop u values)) e)
 
-  pub walking_long : length model ≡ length model₀
-  walking_long = p.left.long
-
-  -- row r is next
-  module _ (h : r < rows) where
-    abbrev pub before : List Record
-    before = take r sheet_records
-
-    before_long : length before ≡ r
-    before_long = length-take-le r sheet_records (omega (arith, p.ok.evaluable.table_is.many))
-
-    many : length p.earlier ≡ r
-    many = hold_many before p.earlier p.hold ∙ before_long
-
-    pub walking_row : Row table sheet_records p.total rows r p.rest
-    walking_row = ahead_row table sheet_records p.total rows r p.rest h p.ahead
-
-    numbers : take rows results ≡ map numerator (p.earlier ++ new_values p.earlier p.rest (drop u values))
-    numbers = p.ok.computed ∙ ap (map numerator) (sym p.same ∙ values_new p.rest p.earlier (drop u values))
-
-    -- the numerator that is read of an earlier row
-    read_number : (x : ℕ) → x < r → get_or results x (pos 0) ≡ numerator (value_at p.earlier x)
-    read_number x k =
-        let new = new_values p.earlier p.rest (drop u values) in
-        sym (get_or-take rows results x (pos 0) (omega arith)) ∙ ap (λ (l : List ℤ). get_or l x (pos 0)) numbers ∙ get_or-map numerator (p.earlier ++ new) x (boolean false)
-        ∙ ap numerator (get_or-append p.earlier new (boolean false) x (omega (arith, many)))
-
-    -- what is referred to stands for its row
-    pub walking_stands : (x : ℕ) {i : ℕ} {n : ℤ} {o : Operand} → i ≡ min x r → n ≡ get_or results i (pos 0) → Referred r x (get_or records i zeros) n o → Stands before p.earlier x o
-    walking_stands x {i} {n} {o} j m q = by (ltb x r) refl q.is_record q.is_numerator
-      where
-        by : (t : Bool) → ltb x r ≡ t → o.record ≡ (if t then get_or records i zeros otherwise missing) → o.numerator ≡ (if t then n otherwise pos 0) → Stands before p.earlier x o
-        by true k e f =
-            let l = ltb-true x r k in
-            let same : i ≡ x = omega arith in
-            record { is_record = e ∙ ap (λ (y : ℕ). get_or records y zeros) same ∙ record_at_lem p.ok.evaluable.table_is r x (omega arith) l; is_numerator = f ∙ m ∙ ap (λ (y : ℕ). get_or results y (pos 0)) same ∙ read_number x l }
-        by false k e f =
-            let l = ltb-false x r k in
-            record {
-              is_record = e ∙ sym (get_or-eq_default before missing (omega (arith, before_long)));
-              is_numerator = f ∙ ap numerator (sym (get_or-eq_default p.earlier (boolean false) (omega (arith, many))));
-            }
-
-    -- the value that the row takes
+  -- ---- a row is left
+  module _ {f : Fields} (here : Row sheet r f) (h : r < length sheet.rows) where
     abbrev value : ℤ
     value = get_or (drop u values) 0 (pos 0)
 
-    -- the row is ready, there is room for it, and when it is put one row more is
-    module _ {f : Fields} (e : walking_row.fields ≡ f) {a b c : Operand} (sa : Stands before p.earlier f.x a) (sb : Stands before p.earlier f.y b) (sc : Stands before p.earlier f.z c) where
-      passes : Passes before walking_row.at f (record_at sheet_records r) walking_row.counts
-      passes = subst (λ (g : Fields). Passes before walking_row.at g (record_at sheet_records r) walking_row.counts) e walking_row.passes
+    long : length (take r sheet.records) ≡ r
+    long = length-take-le r sheet.records (omega (arith, as_many a))
 
-      split : p.rest ≡ f ∷ walking_row.others
-      split = walking_row.split ∙ ap (λ (g : Fields). g ∷ walking_row.others) e
+    many : length p.earlier ≡ r
+    many = hold_many (take r sheet.records) p.earlier p.hold ∙ long
 
-      pub walking_ready : Ready f.kind a b c
-      walking_ready = ready_by before p.earlier p.hold f.kind f.p f.x f.y f.z sa sb sc passes.sorted passes.common passes.widest
+    -- what is read of an earlier row stands for it
+    module _ (computed : results ≡ map numerator (row_values sheet.rows values)) where
+      read_number : (x : ℕ) → x < r → get_or results x (pos 0) ≡ numerator (value_at p.earlier x)
+      read_number x k =
+          let new = new_values p.earlier (drop r sheet.rows) (drop u values) in
+          ap (λ (l : List ℤ). get_or l x (pos 0)) (computed ∙ ap (map numerator) (sym p.same ∙ values_new (drop r sheet.rows) p.earlier (drop u values)))
+          ∙ get_or-map numerator (p.earlier ++ new) x (boolean false) ∙ ap numerator (get_or-append p.earlier new (boolean false) x (omega (arith, many)))
 
-      is_trace : trace_over f a b c value ≡ trace_of sheet_records p.earlier f value
-      unfolding trace_over trace_of
-      is_trace =
-          let named = rw before_long at passes.named in
-          rw (stands_value before p.earlier p.hold f.x sa, stands_value before p.earlier p.hold f.y sb, stands_value before p.earlier p.hold f.z sc, sa.is_record, sb.is_record, sc.is_record)
-          (trace_front sheet_records r f.kind f.p f.x f.y f.z _ _ _ value named)
+      stands : (x : ℕ) {o : Operand} → At sheet results r x o → x < length (take r sheet.records) → Stands (take r sheet.records) sheet.records p.earlier x o
+      stands x o k =
+          let l : x < r = omega (arith, long) in
+          let same : min x r ≡ x = omega arith in
+          let is_own = o.is_record ∙ ap (record_at sheet.records) same in
+          record {
+            is_record = is_own ∙ sym (get_or-take r sheet.records x missing l);
+            is_own = is_own;
+            is_numerator = o.is_numerator ∙ ap (λ (y : ℕ). get_or results y (pos 0)) same ∙ read_number x l;
+          }
+
+    module _ (computed : results ≡ map numerator (row_values sheet.rows values)) (of : References Operand) (at_x : At sheet results r f.x of.x) (at_y : At sheet results r f.y of.y) (at_z : At sheet results r f.z of.z) where
+      pub walking_ready : Ready f.kind of
+      walking_ready = row_ready (take r sheet.records) sheet.records p.earlier p.hold of here.passes (stands computed f.x at_x) (stands computed f.y at_y) (stands computed f.z at_z)
+
+      is_trace : trace_over f of value ≡ trace_of sheet.records p.earlier f value
+      is_trace = row_trace (take r sheet.records) sheet.records p.earlier p.hold of here.passes (stands computed f.x at_x) (stands computed f.y at_y) (stands computed f.z at_z) value
 
       abbrev after : List Bool
-      after = traces_from sheet_records (p.earlier ++ row_val p.earlier f value ∷ []) walking_row.others (drop (bit (is_unknown (uses f.kind))) (drop u values))
+      after = traces_from sheet.records (p.earlier ++ row_val p.earlier f value ∷ []) (drop (r + 1) sheet.rows) (drop (bit (is_unknown (uses f.kind))) (drop u values))
 
-      parts : traces_from sheet_records p.earlier p.rest (drop u values) ≡ trace_over f a b c value ++ after
-      parts = rw is_trace (ap (λ (fs : List Fields). traces_from sheet_records p.earlier fs (drop u values)) split)
+      parts : traces_from sheet.records p.earlier (drop r sheet.rows) (drop u values) ≡ trace_over f of value ++ after
+      parts = rw (is_trace, here.ahead)
 
-      pub walking_place : Room at (trace_over f a b c (get_or values u (pos 0))) model
-      walking_place = rw (← next_value values u) (left_room p.left (trace_over f a b c value) after parts)
+      pub walking_room : Room (trace_over f of (get_or values u (pos 0))) model
+      walking_room = rw (← next_value values u) (left_room p.left (trace_over f of value) after parts)
 
-      pub walking_next : {model' : List ℕ} {next taken : ℕ} → taken ≡ bit (is_unknown (uses f.kind)) → Put at (trace_over f a b c (get_or values u (pos 0))) model model' next
-          → Walking table rows records results values model₀ model' next (u + taken) (r + 1)
-      walking_next {taken = taken} t put =
+      pub walking_next : {model' : PartialModel} {next : ℕ} → next ≡ u + bit (is_unknown (uses f.kind)) → Put (trace_over f of (get_or values u (pos 0))) model model'
+          → Walking sheet results values before model' next (r + 1)
+      walking_next {next = next} t put =
           let v = row_val p.earlier f value in
-          let inside = subst (λ (fs : List Fields). AllIn fs (drop u values)) split p.inside in
-          let same = subst (λ (fs : List Fields). values_from p.earlier fs (drop u values) ≡ row_values (rows_of rows table) values) split p.same in
-          let d : drop (u + taken) values ≡ drop (bit (is_unknown (uses f.kind))) (drop u values) = sym (drop-drop taken u values) ∙ ap (λ (n : ℕ). drop n (drop u values)) t in
+          let inside = rw here.ahead at p.inside in
+          let same = rw here.ahead at p.same in
+          let d : drop next values ≡ drop (bit (is_unknown (uses f.kind))) (drop u values) = ap (λ (n : ℕ). drop n values) t ∙ sym (drop-drop (bit (is_unknown (uses f.kind))) u values) in
           record {
-            ok = p.ok;
+            many = p.many;
             taken = omega (arith, p.taken, t, bit_most (is_unknown (uses f.kind)));
-            rest = walking_row.others;
-            total = p.total;
-            ahead = walking_row.then;
             earlier = p.earlier ++ v ∷ [];
-            hold = rw walking_row.front (all_hold_snoc before p.earlier (record_at sheet_records r) v p.hold (row_fits before p.earlier p.hold walking_row.at f (record_at sheet_records r) walking_row.counts passes value inside.0));
+            hold = rw here.front
+                (all_hold_snoc (take r sheet.records) p.earlier (record_at sheet.records r) v p.hold
+                (row_fits (take r sheet.records) p.earlier p.hold here.at f (record_at sheet.records r) here.counts here.passes value inside.0));
             inside = rw d inside.1;
             same = rw d same;
-            left = rw d (left_step p.left (trace_over f a b c value) after parts (rw (← next_value values u) at put));
+            left = rw d (left_step p.left (trace_over f of value) after parts (rw (← next_value values u) at put));
           }

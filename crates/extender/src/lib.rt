@@ -1,90 +1,74 @@
-// The rows of an accepted table extended: one row after the other, its bits behind those before it.
+// The rows of an accepted sheet extended: one row after the other, its bits behind those before it.
 #![tactic(auto)]
 
 ghost use Rattle.std.specs.Prelude.{◌≡◌, map, ◌<◌, pos, length, get_or};
-ghost use Rattle.whole.specs.Tests.{eq_z};
-ghost use Rattle.whole.specs.Bits.{bit};
+ghost use Rattle.sheet.specs.Values.{numerator, row_values, Chosen};
+ghost use Rattle.sheet.specs.Acceptance.{record_at};
 ghost use Rattle.sheet.specs.Relations.{Extends};
-ghost use Rattle.frame.specs.Frame.{front};
-ghost use Rattle.extender.specs.Extendable.{Extendable, model_bits};
-ghost use Rattle.extender.specs.Referred.{Referred};
+ghost use Rattle.table.specs.Accepted.{Accepted};
+ghost use Rattle.trace.specs.Traces.{traces};
+ghost use Rattle.extend.specs.Bytes.{Room, Put};
 
+use extend::PartialModel;
 use number_extender::Operand;
-use sheet::{Extended, MISSING, Reading, Record};
+use sheet::{Reason, Record, References, Refusal};
+use table::Sheet;
 
-// The row x as one after `rows` others may refer to it, `of` its record.
-fn refer(rows: usize, x: u16, of: Record, numerator: i64) -> Operand
-    ensures { Referred rows x of numerator result }
+// The row at a place among the records and the results.
+fn operand(records: &[Record], results: &[i64], at: usize) -> Operand
+    requires records { at < length records.now }
+    requires results { at < length results.now }
+    ensures record { result.record ≡ record_at records.now at }
+    ensures numerator { result.numerator ≡ get_or results.now at (pos 0) }
 {
-    if (x as usize) < rows {
-        return Operand {
-            record: of,
-            numerator,
-        };
-    }
     Operand {
-        record: MISSING,
-        numerator: 0,
+        record: records[at],
+        numerator: results[at],
     }
 }
 
-// The rows of an accepted table at chosen values, where `results` are the rows' numerators.
-pub fn extend_rows(
-    table: &[u8],
-    rows: usize,
-    records: [Record; 256],
-    results: &[i64],
-    values: &[i64],
-    model: &mut [u8],
-)
-    requires { Extendable table.now rows records results.now values.now (length model.old) }
-    ensures { model.new ≡ front (map bit (model_bits rows table.now records values.now)) model.old }
+// Truth, then the rows of an accepted sheet at chosen values, where `results` are the rows' numerators.
+fn extend_rows(model: &mut PartialModel, sheet: &Sheet, results: &[i64], values: &[i64])
+    requires accepted { Accepted sheet.now }
+    requires chosen { Chosen sheet.now.rows values.now }
+    requires computed { results.now ≡ map numerator (row_values sheet.now.rows values.now) }
+    requires room { Room (traces sheet.now.records sheet.now.rows values.now) model.old }
+    ensures { Put (traces sheet.now.records sheet.now.rows values.now) model.old model.new }
 {
-    let mut at = extend::put(model, 0, true);
+    let records = sheet.records();
+    model.put(true);
     let mut u = 0;
-    let mut r = 0;
-    while r < rows {
-        let Reading::Read(f) = row::read_at(table, r) else {
-            return;
+    for (r, f) in sheet.rows().iter().enumerate() {
+        let at = table::places(*f, r);
+        let of = References {
+            x: operand(records, results, at.x),
+            y: operand(records, results, at.y),
+            z: operand(records, results, at.z),
         };
-        let x = table::place(f.x, r);
-        let y = table::place(f.y, r);
-        let z = table::place(f.z, r);
-        let a = refer(r, f.x, records[x], results[x]);
-        let b = refer(r, f.y, records[y], results[y]);
-        let c = refer(r, f.z, records[z], results[z]);
-        at = row_extender::extend_row(model, at, f, a, b, c, unknown::value_at(values, u));
-        let kind = f.kind;
-        u += unknown::asked(kind);
-        r += 1;
+        row_extender::extend_row(model, *f, of, unknown::value_at(values, u));
+        if unknown::is_unknown(f.kind) {
+            u += 1;
+        }
     }
-}
-
-// Whether a row's result is that of a truth.
-fn is_true(results: &[i64], row: usize) -> bool
-    requires { row < length results.now }
-    ensures { result ≡ eq_z (get_or results.now row (pos 0)) (pos 1) }
-{
-    results[row] == 1
 }
 
 // One byte a variable: the assignment that carries the values; and whether the constraint is true of them.
-pub fn extend(table: &[u8], values: &[i64], model: &mut [u8]) -> Extended
+#[tactic(auto, using(crate::proofs::Extending::extends))]
+pub fn extend(table: &[u8], values: &[i64], model: &mut [u8]) -> Result<bool, Refusal>
     ensures { Extends table.now values.now model.old result model.new }
 {
-    let s = choose::choose(table, values);
-    if s.number != 0 {
-        return Extended::Refused(s.number, s.place);
-    }
-    let variables = s.counts.variables as usize;
+    let sheet = choose::choose(table, values)?;
+    let variables = sheet.counts().variables as usize;
     if model.len() < variables {
-        return Extended::Refused(18, variables);
+        return Err(Reason::ShortBuffer.at(variables));
     }
-    let rows = s.rows;
-    let records = s.records;
+    let rows = sheet.rows().len();
     let mut results = [0; 256];
-    evaluate::fill(table, rows, records, values, &mut results);
-    extend_rows(table, rows, records, &results, values, model);
-    let truth = is_true(&results, rows - 1);
-    Extended::Constraint(truth)
+    evaluate::fill(&sheet, values, &mut results);
+    let mut model = PartialModel {
+        bytes: model,
+        at: 0,
+    };
+    extend_rows(&mut model, &sheet, &results[..rows], values);
+    Ok(results[rows - 1] == 1)
 }

@@ -1,62 +1,39 @@
 -- The rows of a table that a call accepts fit the records that are lent. Assumes nothing.
-use mathlib.Core.Path.{◌≡◌, refl}
-use mathlib.Core.Bool.{Bool, true, false, not}
+use Rattle.std.specs.Prelude.{Ok, Err}
+use mathlib.Core.Path.{◌≡◌, ap, subst}
+use mathlib.Core.Bool.{Bool, not}
 use mathlib.Core.List.{List, map as mapped}
 use Prim.Native.Nat.{ℕ, ◌+◌, ◌*◌, ◌≤◌}
-use native.Mathlib.Omega.{arith}
 use borrow.Author.Tests.{ltb-false}
 use lib.Dec.{eqb, ltb}
 use lib.ListN.{length}
-use Rattle.sheet.specs.Acceptance.{Outcome, refused, accepted, Sheet, accept}
-use Rattle.sheet.specs.Calls.{◌>>=◌, ◌>>◌, refuse◌at◌if◌, refuse◌unless◌fit◌, row_count, unknown_count, false_at, checking, writing, decodable}
-use Rattle.table.specs.declared.answer.Survey.{Survey}
-use Rattle.table.specs.Surveys.{as_survey}
-use Rattle.decode.specs.Decoded.{as_decoded}
+use Rattle.sheet.specs.declared.Reason.TheVariants.{FewRecords, ShortMap, FewSlots, ModelLength, NotABit, ShortBuffer}
+use Rattle.sheet.specs.Acceptance.{Sheet, accept}
+use Rattle.sheet.specs.Calls.{row_count, unknown_count, false_at, checking, writing, decodable}
+use Rattle.sheet.proofs.Called.{same_accepted, bound_accepts, not_refused}
 
-abbrev Fit : ℕ → Outcome Sheet → Type 0
-Fit room (refused n p) = Unit {0}
-Fit room (accepted sheet) = row_count sheet ≤ room
-
-rows_fit : (room : ℕ) (o : Outcome Sheet) → Fit room o → (as_survey o).rows ≤ room
-rows_fit room (refused n p) h = omega arith
-rows_fit room (accepted sheet) h = h
-
-pub roomy : {v : Survey} (w d : Outcome Sheet) → v ≡ as_decoded w d → (room : ℕ) → Fit room w → v.rows ≤ room
-roomy w d e room h = rw e (rows_fit room w h)
-
-module _ (room : ℕ) where
-  bind_fit : (o : Outcome Sheet) (f : Sheet → Outcome Sheet) → Fit room o → ((sheet : Sheet) → row_count sheet ≤ room → Fit room (f sheet)) → Fit room (o >>= f)
-  bind_fit (refused n p) f h k = tt
-  bind_fit (accepted sheet) f h k = k sheet h
-
-  test_fit : (n p : ℕ) (t : Bool) (rest : Outcome Sheet) → Fit room rest → Fit room ((refuse n at p if t) >> rest)
-  test_fit n p true rest h = tt
-  test_fit n p false rest h = h
-
-  pub checking_fits : (table : List ℕ) → Fit room (checking table room)
+module _ (table : List ℕ) (room : ℕ) where
+  pub checking_fits : {sheet : Sheet} → checking table room ≡ Ok sheet → row_count sheet ≤ room
   unfolding checking
-  checking_fits table = by (accept table)
-    where
-      tested : (sheet : Sheet) (t : Bool) → ltb room (row_count sheet) ≡ t → Fit room ((refuse 11 at row_count sheet if t) >> accepted sheet)
-      tested sheet true e = tt
-      tested sheet false e = ltb-false room (row_count sheet) e
+  checking_fits e =
+      let (a, accepts, f) = bound_accepts (accept table) e in
+      let (long, g) = not_refused FewRecords (row_count a) (ltb room (row_count a)) f in
+      subst (λ (b : Sheet). row_count b ≤ room) (same_accepted g) (ltb-false room (row_count a) long)
 
-      by : (o : Outcome Sheet) → Fit room (o >>= (λ sheet. (refuse 11 unless row_count sheet fit room) >> accepted sheet))
-      by (refused n p) = tt
-      by (accepted sheet) = tested sheet (ltb room (row_count sheet)) refl
-
-  pub writing_fits : (table : List ℕ) (map slots : ℕ) → Fit room (writing table room map slots)
+  pub writing_fits : (map slots : ℕ) {sheet : Sheet} → writing table room map slots ≡ Ok sheet → row_count sheet ≤ room
   unfolding writing
-  writing_fits table map slots =
-      bind_fit (checking table room) (λ sheet. (refuse 12 unless 48 * row_count sheet fit map) >> ((refuse 13 unless sheet.counts.slots fit slots) >> accepted sheet)) (checking_fits table) (λ sheet h.
-      test_fit 12 (48 * row_count sheet) (ltb map (48 * row_count sheet)) ((refuse 13 unless sheet.counts.slots fit slots) >> accepted sheet)
-      (test_fit 13 sheet.counts.slots (ltb slots sheet.counts.slots) (accepted sheet) h))
+  writing_fits map slots e =
+      let (a, checks, f) = bound_accepts (checking table room) e in
+      let (long, g) = not_refused ShortMap (48 * row_count a) (ltb map (48 * row_count a)) f in
+      let (wide, h) = not_refused FewSlots a.counts.slots (ltb slots a.counts.slots) g in
+      subst (λ (b : Sheet). row_count b ≤ room) (same_accepted h) (checking_fits checks)
 
-  pub decodable_fits : (table : List ℕ) (map slots : ℕ) (model : List ℕ) (values : ℕ) → Fit room (decodable table room map slots model values)
+  pub decodable_fits : (map slots : ℕ) (model : List ℕ) (values : ℕ) {sheet : Sheet} → decodable table room map slots model values ≡ Ok sheet → row_count sheet ≤ room
   unfolding decodable
-  decodable_fits table map slots model values =
+  decodable_fits map slots model values e =
       let bits : List Bool = mapped (λ b. ltb b 2) model in
-      bind_fit (writing table room map slots) _ (writing_fits table map slots) (λ sheet h.
-      test_fit 16 sheet.counts.variables (not (eqb (length model) sheet.counts.variables)) _
-      (test_fit 17 (false_at 0 bits) (ltb (false_at 0 bits) (0 + length bits)) _
-      (test_fit 18 (unknown_count sheet) (ltb values (unknown_count sheet)) (accepted sheet) h)))
+      let (a, writes, f) = bound_accepts (writing table room map slots) e in
+      let (same, g) = not_refused ModelLength a.counts.variables (not (eqb (length model) a.counts.variables)) f in
+      let (clean, h) = not_refused NotABit (false_at 0 bits) (ltb (false_at 0 bits) (0 + length bits)) g in
+      let (wide, k) = not_refused ShortBuffer (unknown_count a) (ltb values (unknown_count a)) h in
+      subst (λ (b : Sheet). row_count b ≤ room) (same_accepted k) (writing_fits map slots writes)

@@ -1,4 +1,3 @@
--- The laws of the library's calls: what a survey comes to, and records stored one by one. Assumes nothing.
-pub mod Surveyed
+-- The laws of the library's calls: that an accepted table's records fit, and what the records then hold. Assumes nothing.
 pub mod Fits
-pub mod Storing
+pub mod Leaving

@@ -1,3 +1,2 @@
--- The laws of the calls for C: no two outcomes meet a contract, and which slots are a row's. Assumes nothing.
+-- The laws of the calls for C: no two outcomes meet a contract. Assumes nothing.
 pub mod Outcomes
-pub mod Placed

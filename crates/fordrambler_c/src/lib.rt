@@ -4,134 +4,54 @@
 #![tactic(auto)]
 
 ghost use Rattle.std.specs.Prelude.{◌≡◌};
-ghost use Rattle.whole.specs.Bits.{bit};
-ghost use Rattle.sheet.specs.Calls.{number_of, place_of, said, counted, told, found, claimed};
-ghost use Rattle.fordrambler_c.specs.Told.{held, table_bytes, HoldsCounts, HoldsEnd, TellsCheck, TellsMeasure, TellsWrite, PlacesRow, TellsEvaluate, TellsExtend, TellsDecode, TellsLines, TellsLinesUntilEmpty, TellsClaim};
+ghost use Rattle.sheet.specs.Calls.{number_of, place_of};
+ghost use Rattle.fordrambler_c.specs.Told.{said_in, table_bytes, TellsCheck, TellsMeasure, TellsWrite, PlacesRow, TellsEvaluate, TellsExtend, TellsDecode, TellsLines, TellsLinesUntilEmpty, TellsClaim};
 
-use sheet::{Answer, ClaimRead, Extended, LinesRead, Measured, Record};
+use sheet::{LinesFound, Record, Refusal};
 
-// What C is told of an answer: its number is the function's answer, its place goes to a lent number, and what else a success says to others.
-fn tell(answer: Answer, place: &mut usize) -> u32
-    ensures { (result ≡ number_of (said answer)) × (place.new ≡ place_of (said answer)) }
+// What C is told of an answer: the refusal's number, 0 on success, and what a success says.
+#[derive(Clone, Copy)]
+struct Told<T> {
+    number: u32,
+    said: Option<T>,
+}
+
+// The refusal's place, 0 on success, goes to a lent number.
+fn tell<T>(answer: Result<T, Refusal>, place: &mut usize) -> Told<T>
+    ensures number { result.number ≡ number_of answer }
+    ensures place { place.new ≡ place_of answer }
+    ensures said { result.said ≡ said_in answer }
 {
     match answer {
-        Answer::Done => {
+        Ok(said) => {
             *place = 0;
-            0
+            Told {
+                number: 0,
+                said: Some(said),
+            }
         }
-        Answer::Refused(n, p) => {
-            *place = p;
-            n
+        Err(refusal) => {
+            *place = refusal.place;
+            Told {
+                number: refusal.reason.number(),
+                said: None,
+            }
         }
     }
 }
 
-fn tell_counts(
-    answer: Measured,
-    variables: &mut u32,
-    clauses: &mut u32,
-    slots: &mut u32,
-    place: &mut usize,
-) -> u32
-    ensures told { (result ≡ number_of (counted answer)) × (place.new ≡ place_of (counted answer)) }
-    ensures lent { HoldsCounts answer variables.old clauses.old slots.old variables.new clauses.new slots.new }
+// The length of a table that was read, in bytes.
+fn table_bytes(found: LinesFound) -> usize
+    ensures { result ≡ table_bytes found }
 {
-    match answer {
-        Measured::Counted(c) => {
-            *variables = c.variables;
-            *clauses = c.clauses;
-            *slots = c.slots;
-            *place = 0;
-            0
-        }
-        Measured::Refused(n, p) => {
-            *place = p;
-            n
-        }
-    }
-}
-
-// A truth as a byte.
-fn byte(truth: bool) -> u8
-    ensures { result ≡ bit truth }
-{
-    if truth {
-        return 1;
-    }
-    0
-}
-
-fn tell_truth(answer: Extended, truth: &mut u8, place: &mut usize) -> u32
-    ensures answer { (result ≡ number_of (told answer)) × (place.new ≡ place_of (told answer)) }
-    ensures lent { truth.new ≡ held (told answer) bit truth.old }
-{
-    match answer {
-        Extended::Constraint(b) => {
-            *truth = byte(b);
-            *place = 0;
-            0
-        }
-        Extended::Refused(n, p) => {
-            *place = p;
-            n
-        }
-    }
-}
-
-fn tell_lines(
-    answer: LinesRead,
-    table_read: &mut usize,
-    rest: &mut usize,
-    ended: &mut u8,
-    place: &mut usize,
-) -> u32
-    ensures told { (result ≡ number_of (found answer)) × (place.new ≡ place_of (found answer)) }
-    ensures length { table_read.new ≡ held (found answer) table_bytes table_read.old }
-    ensures end { HoldsEnd answer rest.old ended.old rest.new ended.new }
-{
-    match answer {
-        LinesRead::Read(l) => {
-            *table_read = l.rows as usize * 8;
-            *rest = l.rest;
-            *ended = byte(l.ended);
-            *place = 0;
-            0
-        }
-        LinesRead::Refused(n, p) => {
-            *place = p;
-            n
-        }
-    }
-}
-
-fn tell_claim(answer: ClaimRead, claim: &mut u8, place: &mut usize) -> u32
-    ensures told { (result ≡ number_of (claimed answer)) × (place.new ≡ place_of (claimed answer)) }
-    ensures lent { claim.new ≡ held (claimed answer) bit claim.old }
-{
-    match answer {
-        ClaimRead::Model => {
-            *claim = 1;
-            *place = 0;
-            0
-        }
-        ClaimRead::NoneClaimed => {
-            *claim = 0;
-            *place = 0;
-            0
-        }
-        ClaimRead::Refused(n, p) => {
-            *place = p;
-            n
-        }
-    }
+    found.rows as usize * 8
 }
 
 #[unsafe(no_mangle)]
 pub extern "C" fn fordrambler_check(table: &[u8], records: &mut [Record], place: &mut usize) -> u32
     ensures { TellsCheck table.now records.old result place.new records.new }
 {
-    let a = fordrambler::check(table, records);
-    tell(a, place)
+    tell(fordrambler::check(table, records), place).number
 }
 
 // The numbers are set on success only.
@@ -145,8 +65,13 @@ pub extern "C" fn fordrambler_measure(
 ) -> u32
     ensures { TellsMeasure table.now variables.old clauses.old slots.old result place.new variables.new clauses.new slots.new }
 {
-    let m = fordrambler::measure(table);
-    tell_counts(m, variables, clauses, slots, place)
+    let told = tell(fordrambler::measure(table), place);
+    if let Some(counts) = told.said {
+        *variables = counts.variables;
+        *clauses = counts.clauses;
+        *slots = counts.slots;
+    }
+    told.number
 }
 
 #[unsafe(no_mangle)]
@@ -159,8 +84,7 @@ pub extern "C" fn fordrambler_write(
 ) -> u32
     ensures { TellsWrite table.now records.old map.old slots.old result place.new records.new map.new slots.new }
 {
-    let a = fordrambler::write(table, records, map, slots);
-    tell(a, place)
+    tell(fordrambler::write(table, records, map, slots), place).number
 }
 
 // Which of the slots are the row's: the first one's place and their count are set on success only.
@@ -175,14 +99,12 @@ pub extern "C" fn fordrambler_row_clauses(
 ) -> u32
     ensures { PlacesRow table.now slots.now row first.old count.old result place.new first.new count.new }
 {
-    let f = row_clauses::find(table, slots.len(), row);
-    *place = f.place;
-    if f.number != 0 {
-        return f.number;
+    let told = tell(row_clauses::find(table, slots.len(), row), place);
+    if let Some(record) = told.said {
+        *first = record.first as usize;
+        *count = record.slots as usize;
     }
-    *first = f.first;
-    *count = f.slots;
-    0
+    told.number
 }
 
 #[unsafe(no_mangle)]
@@ -194,8 +116,7 @@ pub extern "C" fn fordrambler_evaluate(
 ) -> u32
     ensures { TellsEvaluate table.now values.now results.old result place.new results.new }
 {
-    let a = fordrambler::evaluate(table, values, results);
-    tell(a, place)
+    tell(fordrambler::evaluate(table, values, results), place).number
 }
 
 // The truth is set on success only: 1 if the constraint is true of the values, else 0.
@@ -209,8 +130,11 @@ pub extern "C" fn fordrambler_extend(
 ) -> u32
     ensures { TellsExtend table.now values.now model.old truth.old result place.new model.new truth.new }
 {
-    let a = fordrambler::extend(table, values, model);
-    tell_truth(a, truth, place)
+    let told = tell(fordrambler::extend(table, values, model), place);
+    if let Some(constraint) = told.said {
+        *truth = u8::from(constraint);
+    }
+    told.number
 }
 
 #[unsafe(no_mangle)]
@@ -225,8 +149,11 @@ pub extern "C" fn fordrambler_decode(
 ) -> u32
     ensures { TellsDecode table.now records.old map.old slots.old model.now values.old result place.new records.new map.new slots.new values.new }
 {
-    let a = fordrambler::decode(table, records, map, slots, model, values);
-    tell(a, place)
+    tell(
+        fordrambler::decode(table, records, map, slots, model, values),
+        place,
+    )
+    .number
 }
 
 // The table's length in bytes is set on success only.
@@ -239,10 +166,11 @@ pub extern "C" fn fordrambler_read_lines(
 ) -> u32
     ensures { TellsLines text.now table.old table_read.old result place.new table.new table_read.new }
 {
-    let a = fordrambler::read_lines(text, table);
-    let mut rest = 0;
-    let mut ended = 0;
-    tell_lines(a, table_read, &mut rest, &mut ended, place)
+    let told = tell(fordrambler::read_lines(text, table), place);
+    if let Some(found) = told.said {
+        *table_read = table_bytes(found);
+    }
+    told.number
 }
 
 // The same to an empty line: 1 and the offset behind it, if there is one, else 0 and the text's length.
@@ -257,8 +185,13 @@ pub extern "C" fn fordrambler_read_lines_until_empty(
 ) -> u32
     ensures { TellsLinesUntilEmpty text.now table.old table_read.old rest.old ended.old result place.new table.new table_read.new rest.new ended.new }
 {
-    let a = fordrambler::read_lines_until_empty(text, table);
-    tell_lines(a, table_read, rest, ended, place)
+    let told = tell(fordrambler::read_lines_until_empty(text, table), place);
+    if let Some(found) = told.said {
+        *table_read = table_bytes(found);
+        *rest = found.rest;
+        *ended = u8::from(found.ended);
+    }
+    told.number
 }
 
 // The claim is set on success only: 1 if the text claims a model, else 0.
@@ -272,6 +205,9 @@ pub extern "C" fn fordrambler_read_claim(
 ) -> u32
     ensures { TellsClaim text.now variables model.old claim.old result place.new model.new claim.new }
 {
-    let a = fordrambler::read_claim(text, variables, model);
-    tell_claim(a, claim, place)
+    let told = tell(fordrambler::read_claim(text, variables, model), place);
+    if let Some(is_model) = told.said {
+        *claim = u8::from(is_model);
+    }
+    told.number
 }

@@ -1,5 +1,5 @@
--- Laws of what is written over a list, of gates written one after the other, and of literals in arrays. Assumes nothing.
+-- Laws of what is written over a list, and of gates and circuits written one after the other. Assumes nothing.
 pub mod Frames
+pub mod Slots
 pub mod Writing
-pub mod Literals
 pub mod Loops

@@ -1,70 +1,83 @@
--- The laws of loops that write. A turn writes some gates; then it has one literal to go on with, or puts one at the next place of an array.
--- Assumes nothing.
-use mathlib.Core.Path.{◌≡◌, refl, sym, ap, ◌∙◌}
-use mathlib.Core.List.{List, [], ◌∷◌, ◌++◌, map, append-nil}
-use Prim.Native.Nat.{ℕ, ◌+◌, ◌≤◌, ◌<◌}
-use native.Mathlib.Numerals.{add-one}
-use native.Mathlib.Omega.{arith}
+-- The law of loops that write: what is left of a circuit to be written. Assumes nothing.
+use mathlib.Core.Path.{sym, subst}
+use mathlib.Core.List.{List, [], ◌∷◌, ◌++◌, append-nil}
 use lib.IntN.{ℤ}
-use lib.ListN.{length, set, take, length-set}
-use lib.Seq.{append_snoc, take-suc-set}
-use Rattle.circuit.specs.Literals.{Lit, slot}
+use lib.Seq.{append_snoc}
+use Rattle.circuit.specs.Literals.{Lit}
 use Rattle.circuit.specs.Gates.{Gate}
-use Rattle.circuit.specs.Circuits.{Circuit, gates, out}
-use Rattle.frame.specs.Written.{Room, Wrote}
-use Rattle.frame.proofs.Writing.{Left, left_all, left_step, left_none}
+use Rattle.circuit.specs.Circuits.{Circuit, ret, new, make, ◌>>=◌}
+use Rattle.frame.specs.declared.Cursor.{Cursor}
+use Rattle.frame.specs.declared.Made.{Made}
+use Rattle.frame.specs.Written.{RoomFor, Makes}
+use Rattle.frame.proofs.Writing.{makes_none, bind_first, bind_next, bind_makes}
 
--- ---- one literal is carried along: `rest` is left of the circuit `all`, and answers the same
-pub record Going (from first : ℕ) (all : Circuit Lit) (before after : List ℤ) (at next : ℕ) (rest : Circuit Lit) : Type 0 where
-  pub left : Left from first (gates first all) before after at next (gates next rest)
-  pub answer : out next rest ≡ out first all
+-- of the circuit `all` there is `rest` left, for which there is room; f makes all's result of its result
+module _ {A B : Type 0} where
+  pub record Left (from : Cursor) (all : Circuit A) (before after : List ℤ) (to : Cursor) (rest : Circuit B) (f : B → A) : Type 0 where
+    pub room : RoomFor to rest after
+    pub whole : (end : List ℤ) (m : Made B) → Makes to rest after end m → Makes from all before end (record { value = f m.value; to = m.to })
 
-pub going_all : {from first : ℕ} {all : Circuit Lit} {l : List ℤ} → Room from first (gates first all) l → Going from first all l l from first all
-going_all r = record { left = left_all r; answer = refl }
+  -- nothing is left but the result
+  pub left_none : {from : Cursor} {all : Circuit A} {before after : List ℤ} {to : Cursor} {b : B} {f : B → A} → Left from all before after to (ret b) f
+      → Makes from all before after (record { value = f b; to = to })
+  left_none {after = after} {to = to} {b = b} p = p.whole after _ (makes_none to b after)
 
-module _ {from first : ℕ} {all : Circuit Lit} {before l : List ℤ} {at n : ℕ} {rest : Circuit Lit} (p : Going from first all before l at n rest) where
-  pub going_turn : (us : List Gate) (rest' : Circuit Lit) {l' : List ℤ} {at' n' : ℕ} → gates n rest ≡ us ++ gates n' rest' → out n rest ≡ out n' rest' → Wrote at n us l l' at' n'
-      → Going from first all before l' at' n' rest'
-  going_turn us rest' {n' = n'} e f w = record { left = left_step p.left us (gates n' rest') e w; answer = sym f ∙ p.answer }
+module _ {A : Type 0} where
+  -- all is left
+  pub left_all : {from : Cursor} (all : Circuit A) {l : List ℤ} → RoomFor from all l → Left from all l l from all (λ a. a)
+  left_all all r = record { room = r; whole = λ end m w. w }
 
-  pub going_end : {a : Lit} → gates n rest ≡ [] → out n rest ≡ a → Wrote from first (gates first all) before l at n × (a ≡ out first all)
-  going_end e f = (left_none p.left e, sym f ∙ p.answer)
+-- the first part p of what is left is written
+module _ {A B C : Type 0} {from : Cursor} {all : Circuit A} {before l : List ℤ} {at : Cursor} {f : B → A} (p : Circuit C) (q : C → Circuit B) (h : Left from all before l at (p >>= q) f) where
+  pub left_room : RoomFor at p l
+  left_room = bind_first p q h.room
 
--- ---- an array is filled: the places from `low` to below i are made: `rest` is left of the circuit `all`, and gives the others
-pub record Filling (from first : ℕ) (all : Circuit (List Lit)) (start : List ℤ) (low w : ℕ) (before after : List ℤ) (at next : ℕ) (bits : List ℤ) (i : ℕ) (rest : Circuit (List Lit)) : Type 0 where
-  pub above : low ≤ i
-  pub within : i ≤ w
-  pub wide : length bits ≡ length start
-  pub left : Left from first (gates first all) before after at next (gates next rest)
-  pub answer : take i bits ++ map slot (out next rest) ≡ take low start ++ map slot (out first all)
-
-pub filling_all : {from first : ℕ} {all : Circuit (List Lit)} {start : List ℤ} {low w : ℕ} {l : List ℤ} → low ≤ w → Room from first (gates first all) l
-    → Filling from first all start low w l l from first start low all
-filling_all h r = record { above = omega arith; within = h; wide = refl; left = left_all r; answer = refl }
-
-module _ {from first : ℕ} {all : Circuit (List Lit)} {start : List ℤ} {low w : ℕ} {before l : List ℤ} {at n : ℕ} {bits : List ℤ} {i : ℕ} {rest : Circuit (List Lit)}
-    (p : Filling from first all start low w before l at n bits i rest) where
-  -- the literal a stands at place i, and those below are kept
-  pub filling_on : (us : List Gate) (a : Lit) (rest' : Circuit (List Lit)) {l' : List ℤ} {at' n' : ℕ} {bits' : List ℤ} → i < w → length bits' ≡ length bits → take (i + 1) bits' ≡ take i bits ++ slot a ∷ []
-      → gates n rest ≡ us ++ gates n' rest' → out n rest ≡ a ∷ out n' rest' → Wrote at n us l l' at' n' → Filling from first all start low w before l' at' n' bits' (i + 1) rest'
-  filling_on us a rest' {n' = n'} h k t e f d = record {
-    above = omega arith;
-    within = omega arith;
-    wide = k ∙ p.wide;
-    left = left_step p.left us (gates n' rest') e d;
-    answer = rw t (append_snoc (take i bits) (slot a) (map slot (out n' rest')) ∙ ap (λ o. take i bits ++ map slot o) (sym f) ∙ p.answer);
+  pub left_step : {l' : List ℤ} {m : Made C} → Makes at p l l' m → Left from all before l' m.to (q m.value) f
+  left_step w = record {
+    room = bind_next p q h.room w;
+    whole = λ end m' v. h.whole end m' (bind_makes p q h.room w v);
   }
 
-  pub filling_turn : (us : List Gate) (a : Lit) (rest' : Circuit (List Lit)) {l' : List ℤ} {at' n' : ℕ} → i < w → w ≤ length start
-      → gates n rest ≡ us ++ gates n' rest' → out n rest ≡ a ∷ out n' rest' → Wrote at n us l l' at' n'
-      → Filling from first all start low w before l' at' n' (set bits i (slot a)) (i + 1) rest'
-  filling_turn us a rest' h k e f d =
-      let m : i < length bits = omega arith in
-      filling_on us a rest' h (length-set bits i (slot a)) (rw add-one (take-suc-set bits i (slot a) m)) e f d
+-- the first gate of what is left
+module _ {A B : Type 0} {from : Cursor} {all : Circuit A} {before l : List ℤ} {at : Cursor} {f : B → A} {g : Gate} {k : Lit → Circuit B} (h : Left from all before l at (new g k) f) where
+  pub gate_room : RoomFor at (make g) l
+  gate_room = left_room (make g) k h
 
-  pub filling_end : w ≤ i → gates n rest ≡ [] → out n rest ≡ []
-      → Wrote from first (gates first all) before l at n × (take w bits ≡ take low start ++ map slot (out first all))
-  filling_end h e f =
-      let j : i ≡ w = omega arith in
-      let o = rw (f, append-nil) at p.answer in
-      (left_none p.left e, rw j at o)
+  pub gate_step : {l' : List ℤ} {m : Made Lit} → Makes at (make g) l l' m → Left from all before l' m.to (k m.value) f
+  gate_step w = left_step (make g) k h w
+
+-- all's result is f of the result of c, changed by g
+module _ {A B C : Type 0} {from : Cursor} {all : Circuit A} {before after : List ℤ} {to : Cursor} (c : Circuit C) (g : C → B) {f : B → A} where
+  pub left_same : Left from all before after to (c >>= λ a. ret (g a)) f → Left from all before after to c (λ a. f (g a))
+  left_same p = record {
+    room = bind_first c (λ a. ret (g a)) p.room;
+    whole = λ end m w. p.whole end _ (bind_makes c (λ a. ret (g a)) p.room w (makes_none m.to (g m.value) end));
+  }
+
+-- ---- literals are made, one after the other: those of `done` are, and what is left makes the others
+pub record Filling (from : Cursor) (all : Circuit (List Lit)) (before after : List ℤ) (to : Cursor) (done : List Lit) (rest : Circuit (List Lit)) : Type 0 where
+  pub left : Left from all before after to rest (λ ls. done ++ ls)
+
+pub filling_all : {from : Cursor} (all : Circuit (List Lit)) {l : List ℤ} → RoomFor from all l → Filling from all l l from [] all
+filling_all all r = record { left = left_all all r }
+
+module _ {from : Cursor} {all : Circuit (List Lit)} {before l : List ℤ} {at : Cursor} {done : List Lit} where
+  -- the last literals are a known list
+  pub filling_end : {ls : List Lit} → Filling from all before l at done (ret ls) → Makes from all before l (record { value = done ++ ls; to = at })
+  filling_end h = left_none h.left
+
+  pub filling_none : Filling from all before l at done (ret []) → Makes from all before l (record { value = done; to = at })
+  filling_none h = subst (λ (ls : List Lit). Makes from all before l (record { value = ls; to = at })) (append-nil done) (filling_end h)
+
+  -- a turn: p is written, of whose result comes one literal more
+  module _ {C : Type 0} (p : Circuit C) (a : C → Lit) (q : C → Circuit (List Lit)) (h : Filling from all before l at done (p >>= λ c. q c >>= λ ls. ret (a c ∷ ls))) where
+    pub filling_room : RoomFor at p l
+    filling_room = left_room p (λ c. q c >>= λ ls. ret (a c ∷ ls)) h.left
+
+    pub filling_turn : {l' : List ℤ} {m : Made C} → Makes at p l l' m → Filling from all before l' m.to (done ++ a m.value ∷ []) (q m.value)
+    filling_turn {l'} {m} w = record {
+      left = subst
+          (λ (f : List Lit → List Lit). Left from all before l' m.to (q m.value) f)
+          (λ i ls. sym (append_snoc done (a m.value) ls) i)
+          (left_same (q m.value) (λ ls. a m.value ∷ ls) (left_step p (λ c. q c >>= λ ls. ret (a c ∷ ls)) h.left w));
+    }

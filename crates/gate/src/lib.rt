@@ -1,123 +1,92 @@
-// The gate writers. Each is lent the slots that remain, writes the clauses of one gate over their front, and answers the gate's literal.
-// The gate makes variable `next` + 1: `next` variables are made already. In a writer ng, na, nb and nc are the negations of g, a, b and c.
+// The gate writers. Each writes the clauses of one gate where writing goes on, and answers the gate's literal and where writing goes on behind them.
+// In a writer g is the slot of the gate's literal; a, b and c become slots too, and ng, na, nb and nc are those of the negations.
 #![tactic(auto)]
 
-ghost use Rattle.std.specs.Prelude.{◌≡◌, [], ◌∷◌, ◌≤◌, ◌<◌, length};
-ghost use Rattle.circuit.specs.Literals.{plus, neg, slot};
+ghost use Rattle.std.specs.Prelude.{◌≡◌, ◌+◌, ◌≤◌, ◌<◌, length};
 ghost use Rattle.circuit.specs.Gates.{and, xor, mux, maj};
-ghost use Rattle.frame.specs.Frame.{front};
-ghost use Rattle.frame.specs.Literals.{unslot, IsLit};
-ghost use Rattle.frame.specs.Written.{written};
+ghost use Rattle.circuit.specs.Circuits.{make};
+ghost use Rattle.frame.specs.Frame.{front, over};
+ghost use Rattle.frame.specs.Written.{RoomFor, Makes};
 
-// The negation of a literal.
-pub fn negate(x: i32) -> i32
-    requires { IsLit x }
-    ensures result_is { result ≡ slot (neg (unslot x)) }
-    ensures is_lit { IsLit result }
+use frame::{Cursor, Lit, Made};
+
+// Writes clauses over the front of the slots that remain.
+fn write(out: &mut [i32], clauses: &[i32])
+    requires { length clauses.now ≤ length out.old }
+    ensures { out.new ≡ front clauses.now out.old }
 {
-    -x
+    out[..clauses.len()].copy_from_slice(clauses);
 }
 
-// The literal of the next variable.
-pub fn fresh(next: u32) -> i32
-    requires { next < 2147483647 }
-    ensures result_is { result ≡ slot (plus next) }
-    ensures is_lit { IsLit result }
+// Writes the clauses of the gate that makes the literal into the slots that remain.
+fn put(slots: &mut [i32], from: Cursor, literal: Lit, clauses: &[i32]) -> Made<Lit>
+    requires place { from.at + length clauses.now ≤ length slots.old }
+    requires number { from.next < 2147483647 }
+    ensures slots { slots.new ≡ over from.at clauses.now slots.old }
+    ensures literal { result.value ≡ literal }
+    ensures place { result.to.at ≡ from.at + length clauses.now }
+    ensures number { result.to.next ≡ from.next + 1 }
 {
-    (next + 1) as i32
-}
-
-// Writes v over the front of out.
-pub fn put(out: &mut [i32], v: &[i32])
-    requires { length v.now ≤ length out.old }
-    ensures { out.new ≡ front v.now out.old }
-{
-    let mut i = 0;
-    while i < v.len() {
-        let x = v[i];
-        out[i] = x;
-        i += 1;
-    }
+    write(&mut slots[from.at..], clauses);
+    let to = Cursor {
+        at: from.at + clauses.len(),
+        next: from.next + 1,
+    };
+    Made { value: literal, to }
 }
 
 // AND(a, b): 3 clauses in 10 slots.
-pub fn put_and(out: &mut [i32], next: u32, a: i32, b: i32) -> i32
-    requires out_room { 10 ≤ length out.old }
-    requires next_below { next < 2147483647 }
-    requires is_lit_a { IsLit a }
-    requires is_lit_b { IsLit b }
-    ensures slots { out.new ≡ front (written next (and (unslot a) (unslot b) ∷ [])) out.old }
-    ensures result_is { result ≡ slot (plus next) }
-    ensures is_lit { IsLit result }
+pub fn and(slots: &mut [i32], from: Cursor, a: Lit, b: Lit) -> Made<Lit>
+    requires { RoomFor from (make (and a b)) slots.old }
+    ensures { Makes from (make (and a b)) slots.old slots.new result }
 {
-    let g = fresh(next);
-    let ng = negate(g);
-    let na = negate(a);
-    let nb = negate(b);
-    let v = [ng, a, 0, ng, b, 0, g, na, nb, 0];
-    put(out, &v);
-    g
+    let literal = Lit::fresh(from.next);
+    let (g, ng) = (literal.slot(), (-literal).slot());
+    let (a, na) = (a.slot(), (-a).slot());
+    let (b, nb) = (b.slot(), (-b).slot());
+    let clauses = [ng, a, 0, ng, b, 0, g, na, nb, 0];
+    put(slots, from, literal, &clauses)
 }
 
 // XOR(a, b): 4 clauses in 16 slots.
-pub fn put_xor(out: &mut [i32], next: u32, a: i32, b: i32) -> i32
-    requires out_room { 16 ≤ length out.old }
-    requires next_below { next < 2147483647 }
-    requires is_lit_a { IsLit a }
-    requires is_lit_b { IsLit b }
-    ensures slots { out.new ≡ front (written next (xor (unslot a) (unslot b) ∷ [])) out.old }
-    ensures result_is { result ≡ slot (plus next) }
-    ensures is_lit { IsLit result }
+pub fn xor(slots: &mut [i32], from: Cursor, a: Lit, b: Lit) -> Made<Lit>
+    requires { RoomFor from (make (xor a b)) slots.old }
+    ensures { Makes from (make (xor a b)) slots.old slots.new result }
 {
-    let g = fresh(next);
-    let ng = negate(g);
-    let na = negate(a);
-    let nb = negate(b);
-    let v = [ng, a, b, 0, ng, na, nb, 0, g, na, b, 0, g, a, nb, 0];
-    put(out, &v);
-    g
+    let literal = Lit::fresh(from.next);
+    let (g, ng) = (literal.slot(), (-literal).slot());
+    let (a, na) = (a.slot(), (-a).slot());
+    let (b, nb) = (b.slot(), (-b).slot());
+    let clauses = [ng, a, b, 0, ng, na, nb, 0, g, na, b, 0, g, a, nb, 0];
+    put(slots, from, literal, &clauses)
 }
 
 // MUX(c, a, b), which is a if c, else b: 4 clauses in 16 slots.
-pub fn put_mux(out: &mut [i32], next: u32, c: i32, a: i32, b: i32) -> i32
-    requires out_room { 16 ≤ length out.old }
-    requires next_below { next < 2147483647 }
-    requires is_lit_c { IsLit c }
-    requires is_lit_a { IsLit a }
-    requires is_lit_b { IsLit b }
-    ensures slots { out.new ≡ front (written next (mux (unslot c) (unslot a) (unslot b) ∷ [])) out.old }
-    ensures result_is { result ≡ slot (plus next) }
-    ensures is_lit { IsLit result }
+pub fn mux(slots: &mut [i32], from: Cursor, c: Lit, a: Lit, b: Lit) -> Made<Lit>
+    requires { RoomFor from (make (mux c a b)) slots.old }
+    ensures { Makes from (make (mux c a b)) slots.old slots.new result }
 {
-    let g = fresh(next);
-    let ng = negate(g);
-    let nc = negate(c);
-    let na = negate(a);
-    let nb = negate(b);
-    let v = [ng, nc, a, 0, ng, c, b, 0, g, nc, na, 0, g, c, nb, 0];
-    put(out, &v);
-    g
+    let literal = Lit::fresh(from.next);
+    let (g, ng) = (literal.slot(), (-literal).slot());
+    let (c, nc) = (c.slot(), (-c).slot());
+    let (a, na) = (a.slot(), (-a).slot());
+    let (b, nb) = (b.slot(), (-b).slot());
+    let clauses = [ng, nc, a, 0, ng, c, b, 0, g, nc, na, 0, g, c, nb, 0];
+    put(slots, from, literal, &clauses)
 }
 
 // MAJ(a, b, c): 6 clauses in 24 slots.
-pub fn put_maj(out: &mut [i32], next: u32, a: i32, b: i32, c: i32) -> i32
-    requires out_room { 24 ≤ length out.old }
-    requires next_below { next < 2147483647 }
-    requires is_lit_a { IsLit a }
-    requires is_lit_b { IsLit b }
-    requires is_lit_c { IsLit c }
-    ensures slots { out.new ≡ front (written next (maj (unslot a) (unslot b) (unslot c) ∷ [])) out.old }
-    ensures result_is { result ≡ slot (plus next) }
-    ensures is_lit { IsLit result }
+pub fn maj(slots: &mut [i32], from: Cursor, a: Lit, b: Lit, c: Lit) -> Made<Lit>
+    requires { RoomFor from (make (maj a b c)) slots.old }
+    ensures { Makes from (make (maj a b c)) slots.old slots.new result }
 {
-    let g = fresh(next);
-    let ng = negate(g);
-    let na = negate(a);
-    let nb = negate(b);
-    let nc = negate(c);
-    let v = [ng, a, b, 0, ng, a, c, 0, ng, b, c, 0];
-    let w = [g, na, nb, 0, g, na, nc, 0, g, nb, nc, 0];
-    put(out, &v);
-    put(&mut out[12..], &w);
-    g
+    let literal = Lit::fresh(from.next);
+    let (g, ng) = (literal.slot(), (-literal).slot());
+    let (a, na) = (a.slot(), (-a).slot());
+    let (b, nb) = (b.slot(), (-b).slot());
+    let (c, nc) = (c.slot(), (-c).slot());
+    let clauses = [
+        ng, a, b, 0, ng, a, c, 0, ng, b, c, 0, g, na, nb, 0, g, na, nc, 0, g, nb, nc, 0,
+    ];
+    put(slots, from, literal, &clauses)
 }

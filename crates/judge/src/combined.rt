@@ -1,5 +1,5 @@
 // Numbers of two rows: their product, or both brought to one denominator and combined bit by bit, with refusals 8 and 9.
-ghost use Rattle.std.specs.Prelude.{◌≡◌, ◌+◌, ◌*◌, ◌≤◌, max};
+ghost use Rattle.std.specs.Prelude.{◌≡◌, ◌+◌, ◌*◌, ◌≤◌};
 ghost use Rattle.circuit.specs.Counting.{◌⊕◌, a_product, an_expansion, expanded_width};
 ghost use Rattle.circuit.specs.Counting as Counting;
 ghost use Rattle.sheet.specs.Acceptance.{number_plan};
@@ -10,10 +10,11 @@ ghost use Rattle.judge.specs.Parts.{settled, combined_plan};
 
 use crate::passing;
 use circuit::Counts;
-use sheet::{Record, Verdict};
+use sheet::{Passed, Reason, Record};
 
 // A product of numbers of widths v and w over the denominators d and e.
-pub fn multiplied(first: u32, v: u32, w: u32, d: u32, e: u32) -> Verdict
+#[tactic(auto, unfolding(crate::specs::Parts::settled))]
+pub fn multiplied(first: u32, v: u32, w: u32, d: u32, e: u32) -> Result<Passed, Reason>
     requires v_most { v ≤ 48 }
     requires w_most { w ≤ 48 }
     requires denominator_d { Denominator d }
@@ -23,20 +24,13 @@ pub fn multiplied(first: u32, v: u32, w: u32, d: u32, e: u32) -> Verdict
 {
     let denominator = d * e;
     if 4096 < denominator {
-        return Verdict::Stop(8);
+        return Err(Reason::LargeDenominator);
     }
     let total = v + w;
     if 48 < total {
-        return Verdict::Stop(9);
+        return Err(Reason::TooWide);
     }
     passing::number(first, total, denominator, counting::product(total))
-}
-
-// The larger of two widths.
-fn larger(v: u32, w: u32) -> u32
-    ensures answer { result ≡ max v w }
-{
-    if v < w { w } else { v }
 }
 
 // What it counts to expand numbers of v and w bits by the factors f and g, and to combine so many bits, each counting `bit`.
@@ -54,7 +48,15 @@ fn counted(v: u32, f: u32, w: u32, g: u32, width: u32, bit: Counts) -> Counts
 
 // a and b over the least common multiple of their denominators, combined at the larger width and so many bits more, each bit
 // counting `bit`: to a comparison where the sort is 0, else to a number.
-pub fn combined(first: u32, sort: u32, wider: u32, bit: Counts, a: Record, b: Record) -> Verdict
+#[tactic(auto, unfolding(crate::specs::Parts::settled, crate::specs::Parts::combined_plan))]
+pub fn combined(
+    first: u32,
+    sort: u32,
+    wider: u32,
+    bit: Counts,
+    a: Record,
+    b: Record,
+) -> Result<Passed, Reason>
     requires wider_most { wider ≤ 1 }
     requires below_bit { Below 56 bit }
     requires in_limits_a { InLimits a }
@@ -64,17 +66,14 @@ pub fn combined(first: u32, sort: u32, wider: u32, bit: Counts, a: Record, b: Re
 {
     let common = numbers::lcm(a.denominator, b.denominator);
     if 4096 < common {
-        return Verdict::Stop(8);
+        return Err(Reason::LargeDenominator);
     }
     let f = common / a.denominator;
     let g = common / b.denominator;
-    let both = larger(
-        counting::expanded_width(a.width, f),
-        counting::expanded_width(b.width, g),
-    );
+    let both = counting::expanded_width(a.width, f).max(counting::expanded_width(b.width, g));
     let width = both + wider;
     if 48 < width {
-        return Verdict::Stop(9);
+        return Err(Reason::TooWide);
     }
     let counts = counted(a.width, f, b.width, g, width, bit);
     if sort == 0 {

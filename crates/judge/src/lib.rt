@@ -6,7 +6,7 @@ ghost use Rattle.std.specs.Prelude.{◌≡◌};
 ghost use Rattle.sheet.specs.Acceptance.{judge_by};
 ghost use Rattle.judge.specs.Bounds.{InLimits, Bounded};
 
-use sheet::{Fields, Record, Verdict};
+use sheet::{Fields, Passed, Reason, Record, References};
 
 mod combined;
 mod operands;
@@ -14,21 +14,29 @@ mod passing;
 mod plans;
 mod ranges;
 
-// The verdict on a row after so many others: a, b and c are the records of the rows that x, y and z name, and `first` is the next
-// free slot.
-pub fn judge_row(rows: usize, first: u32, f: Fields, a: Record, b: Record, c: Record) -> Verdict
-    requires in_limits_a { InLimits a }
-    requires in_limits_b { InLimits b }
-    requires in_limits_c { InLimits c }
-    ensures answer { result ≡ judge_by rows first f.kind f.p f.x f.y f.z a b c }
+// The verdict on a row after so many others: `of` are the records of the rows that x, y and z name, and `first` is the next free slot.
+#[tactic(auto, unfolding(crate::specs::Parts::settled))]
+pub fn judge_row(
+    rows: usize,
+    first: u32,
+    f: Fields,
+    of: References<Record>,
+) -> Result<Passed, Reason>
+    requires x { InLimits of.x }
+    requires y { InLimits of.y }
+    requires z { InLimits of.z }
+    ensures answer { result ≡ judge_by rows first f.kind f.p f.x f.y f.z of.x of.y of.z }
     ensures bounded { Bounded result }
 {
     if ranges::out_of_range(f) {
-        return Verdict::Stop(5);
+        return Err(Reason::OutOfRange);
     }
-    let n = operands::refusal(rows, f, a.sort, b.sort, c.sort);
-    if n != 0 {
-        return Verdict::Stop(n);
+    let sorts = operands::sorts_in(f.kind);
+    if operands::some_not_earlier(rows, sorts, &[f.x, f.y, f.z]) {
+        return Err(Reason::NotEarlier);
     }
-    plans::settle(first, f, a, b, c)
+    if operands::some_of_wrong_sort(sorts, &[of.x, of.y, of.z]) {
+        return Err(Reason::WrongSort);
+    }
+    plans::settle(first, f, of)
 }

@@ -11,7 +11,7 @@ ghost use Rattle.judge.specs.Parts.{settled};
 use crate::{combined, passing};
 use circuit::Counts;
 use counting::NOTHING;
-use sheet::{Fields, Kind, Record, Verdict};
+use sheet::{Fields, Kind, Passed, Reason, Record, References};
 
 // What a Boolean unknown and the gates count.
 const UNKNOWN: Counts = Counts {
@@ -65,42 +65,48 @@ const MATCHING: Counts = Counts {
 };
 
 // An unknown number of p bits and so many bits of sign, over z.
-fn unknown(first: u32, p: u8, sign: u32, z: u16) -> Verdict
+fn unknown(first: u32, p: u8, sign: u32, z: u16) -> Result<Passed, Reason>
     requires p_most { p + sign ≤ 48 }
     requires denominator_z { Denominator z }
     ensures answer { result ≡ settled first (number_plan (p + sign) z (an_unknown p)) }
     ensures bounded { Bounded result }
 {
-    let bits = p as u32;
+    let bits = u32::from(p);
     let counts = Counts {
         unknowns: 1,
         variables: bits,
         clauses: 0,
         slots: 0,
     };
-    passing::number(first, bits + sign, z as u32, counts)
+    passing::number(first, bits + sign, u32::from(z), counts)
 }
 
 // A number constant over z, x and y the halves of its numerator.
-fn constant(first: u32, x: u16, y: u16, z: u16) -> Verdict
+fn constant(first: u32, x: u16, y: u16, z: u16) -> Result<Passed, Reason>
     requires { Denominator z }
     ensures answer { result ≡ settled first (number_plan (fewest (constant_in x y)) z nothing) }
     ensures bounded { Bounded result }
 {
-    passing::number(first, numbers::bits_of_constant(x, y), z as u32, NOTHING)
+    passing::number(
+        first,
+        numbers::bits(numbers::constant(x, y)),
+        u32::from(z),
+        NOTHING,
+    )
 }
 
 // Refusals 8 and 9, or the row's record and what it counts.
-pub fn settle(first: u32, f: Fields, a: Record, b: Record, c: Record) -> Verdict
-    requires in_limits_a { InLimits a }
-    requires in_limits_b { InLimits b }
-    requires in_limits_c { InLimits c }
-    requires out_of_range_is { out_of_range (uses f.kind) f.p f.x f.z ≡ false }
-    ensures answer { result ≡ settled first (plan_by f.kind f.p f.x f.y f.z a b c) }
+#[tactic(auto, unfolding(crate::specs::Parts::combined_plan))]
+pub fn settle(first: u32, f: Fields, of: References<Record>) -> Result<Passed, Reason>
+    requires x { InLimits of.x }
+    requires y { InLimits of.y }
+    requires z { InLimits of.z }
+    requires ranged { out_of_range (uses f.kind) f.p f.x f.z ≡ false }
+    ensures answer { result ≡ settled first (plan_by f.kind f.p f.x f.y f.z of.x of.y of.z) }
     ensures bounded { Bounded result }
 {
-    let kind = f.kind;
-    match kind {
+    let (a, b, c) = (of.x, of.y, of.z);
+    match f.kind {
         Kind::BooleanConstant | Kind::Not => passing::boolean(first, NOTHING),
         Kind::BooleanUnknown => passing::boolean(first, UNKNOWN),
         Kind::NaturalUnknown => unknown(first, f.p, 1, f.z),

@@ -7,30 +7,23 @@ use sheet::{Fields, Kind};
 
 // Whether n is below the least or above the most.
 fn outside(least: u16, most: u16, n: u16) -> bool
-    ensures answer { result ≡ Acceptance.outside least most n }
+    ensures { result ≡ Acceptance.outside least most n }
 {
-    if n < least {
-        return true;
-    }
-    most < n
+    n < least || most < n
 }
 
 // Whether the p bits of an unknown number, at most so many, or its denominator z is out of range.
 fn unknown_outside(most: u16, p: u8, z: u16) -> bool
-    ensures answer { result ≡ (Acceptance.outside 1 most p || Acceptance.outside 1 4096 z) }
+    ensures { result ≡ (Acceptance.outside 1 most p || Acceptance.outside 1 4096 z) }
 {
-    if outside(1, most, p as u16) {
-        return true;
-    }
-    outside(1, 4096, z)
+    outside(1, most, u16::from(p)) || outside(1, 4096, z)
 }
 
 // Whether one of a row's fields is; a row that refers to others has none to test here.
 pub fn out_of_range(f: Fields) -> bool
-    ensures answer { result ≡ Acceptance.out_of_range (uses f.kind) f.p f.x f.z }
+    ensures { result ≡ Acceptance.out_of_range (uses f.kind) f.p f.x f.z }
 {
-    let kind = f.kind;
-    match kind {
+    match f.kind {
         Kind::BooleanConstant => 1 < f.x,
         Kind::NaturalUnknown => unknown_outside(31, f.p, f.z),
         Kind::IntegerUnknown => unknown_outside(32, f.p, f.z),

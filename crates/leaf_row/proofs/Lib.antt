@@ -1,2 +1,2 @@
--- The variables of unknowns. Assumes nothing.
+-- The variables of unknowns, and rows that write nothing. Assumes nothing.
 pub mod Fresh

@@ -1,111 +1,70 @@
 // The reader of a table's lines, to the end of its text or to an empty line: it judges every line before it writes a row.
 #![tactic(auto)]
 
-ghost use Rattle.std.specs.Prelude.{◌≡◌, true, false, ◌&&◌, ◌≤◌, ◌+◌, ◌-◌, ◌*◌, ◌%◌, ltb, eqb, length};
-ghost use Rattle.whole.specs.Tests.{if◌then◌otherwise◌};
+ghost use Rattle.std.specs.Prelude.{◌≡◌, true, false, ◌≤◌, ◌+◌, ◌*◌, ◌%◌, length};
 ghost use Rattle.frame.specs.Frame.{front};
-ghost use Rattle.sheet.specs.Calls.{left, found};
+ghost use Rattle.sheet.specs.Calls.{left};
 ghost use Rattle.sheet.specs.Texts as Texts;
 ghost use Rattle.sheet.specs.Texts.{begins_line, bytes_in, table_in, lines_from, read_lines};
-ghost use Rattle.lines.specs.Found.{Within};
 
-use sheet::{LinesFound, LinesRead};
+use sheet::{LinesFound, Reason, Refusal};
 
-// What a decimal digit stands for; 16 for any other byte.
-fn decimal(b: u8) -> u8
-    ensures result_is { result ≡ (if ltb b 48 then 16 otherwise if ltb b 58 then b - 48 otherwise 16) }
-    ensures result_most { result ≤ 16 }
-{
-    if b < 48 {
-        return 16;
-    }
-    if b < 58 {
-        return b - 48;
-    }
-    16
-}
+// The most rows that a table may have, and the bytes that they take.
+const ROWS: usize = 256;
+
+const ROOM: usize = 2048;
 
 // What a hexadecimal digit stands for; 16 for any other byte.
 fn nibble(b: u8) -> u8
-    ensures result_is { result ≡ Texts.nibble b }
-    ensures result_most { result ≤ 16 }
+    ensures value { result ≡ Texts.nibble b }
+    ensures bound { result ≤ 16 }
 {
-    let n = decimal(b);
-    if b < 97 {
-        return n;
+    match b {
+        b'0'..=b'9' => b - b'0',
+        b'a'..=b'f' => b - b'a' + 10,
+        _ => 16,
     }
-    if b < 103 {
-        return b - 87;
-    }
-    16
-}
-
-// The larger of two nibbles: below 16 if both are.
-fn larger(a: u8, b: u8) -> u8
-    ensures { ltb result 16 ≡ (ltb a 16 && ltb b 16) }
-{
-    if a < b {
-        return b;
-    }
-    a
 }
 
 // Whether the text begins with 16 digits and a line feed. All 16 bytes are looked at, without a branch: that is quicker.
+#[tactic(auto, using(crate::proofs::Laws::begins_short, crate::proofs::Laws::begins_next, crate::proofs::Laws::begins_last))]
 fn begins_line(text: &[u8]) -> bool
     ensures { result ≡ begins_line 16 text.now }
 {
     if text.len() < 17 {
         return false;
     }
-    let mut most = 0;
-    let mut i = 0;
-    while i < 16 {
-        most = larger(most, nibble(text[i]));
-        i += 1;
+    let mut most: u8 = 0;
+    for byte in &text[..16] {
+        most = most.max(nibble(*byte));
     }
-    if most >= 16 {
-        return false;
-    }
-    text[16] == 10
-}
-
-// Whether a line that begins with b ends the table: an empty line, where it may.
-fn ends(blank: bool, b: u8) -> bool
-    ensures { result ≡ (blank && eqb b 10) }
-{
-    if blank {
-        return b == 10;
-    }
-    false
+    most < 16 && text[16] == b'\n'
 }
 
 // Judges the lines and writes nothing; a table has room for 256.
-fn judge(text: &[u8], blank: bool) -> LinesRead
-    ensures found_is { found result ≡ lines_from 256 blank 0 text.now }
-    ensures within_text { Within text.now result }
+fn judge(text: &[u8], blank: bool) -> Result<LinesFound, Refusal>
+    ensures { result ≡ lines_from 256 blank 0 text.now }
 {
     let mut rows = 0;
-    let mut at = 0;
-    while at < text.len() {
-        if ends(blank, text[at]) {
-            return LinesRead::Read(LinesFound {
-                rows,
-                rest: at + 1,
+    for line in text.chunks(17) {
+        if blank && line[0] == b'\n' {
+            return Ok(LinesFound {
+                rows: rows as u32,
+                rest: 17 * rows + 1,
                 ended: true,
             });
         }
-        if rows >= 256 {
-            return LinesRead::Refused(2, 0);
+        if rows >= ROWS {
+            return Err(Reason::TooManyRows.at(0));
         }
-        if !begins_line(&text[at..]) {
-            return LinesRead::Refused(20, rows as usize);
+        if !begins_line(line) {
+            return Err(Reason::BadLine.at(rows));
         }
-        at += 17;
         rows += 1;
     }
-    LinesRead::Read(LinesFound {
-        rows,
-        rest: at,
+    Ok(LinesFound {
+        rows: rows as u32,
+        rest: text.len(),
         ended: false,
     })
 }
@@ -117,17 +76,14 @@ fn pair(high: u8, low: u8) -> u8
     nibble(high) % 16 * 16 + nibble(low) % 16
 }
 
-// The eight bytes of the line that the text begins with, over the front of out.
-fn put_row(out: &mut [u8], text: &[u8])
-    requires out_room { 8 ≤ length out.old }
+// A row's eight bytes, of the line that the text begins with.
+fn put_row(row: &mut [u8], text: &[u8])
+    requires row_is { length row.old ≡ 8 }
     requires text_room { 16 ≤ length text.now }
-    ensures { out.new ≡ front (bytes_in 8 text.now) out.old }
+    ensures { row.new ≡ bytes_in 8 text.now }
 {
-    let mut i = 0;
-    while i < 8 {
-        let b = pair(text[2 * i], text[2 * i + 1]);
-        out[i] = b;
-        i += 1;
+    for (i, byte) in row.iter_mut().enumerate() {
+        *byte = pair(text[2 * i], text[2 * i + 1]);
     }
 }
 
@@ -137,42 +93,35 @@ fn put_rows(table: &mut [u8], text: &[u8], rows: usize)
     requires text_room { 17 * rows ≤ length text.now }
     ensures { table.new ≡ front (table_in rows text.now) table.old }
 {
-    let mut r = 0;
-    while r < rows {
-        let at = 8 * r;
-        let from = 17 * r;
-        put_row(&mut table[at..], &text[from..]);
-        r += 1;
+    for row in 0..rows {
+        put_row(&mut table[8 * row..8 * row + 8], &text[17 * row..]);
     }
 }
 
 // The lines of the text as rows at the front of the table, to the end of the text or, where `blank` is true, to an empty line.
-fn read(text: &[u8], table: &mut [u8], blank: bool) -> LinesRead
-    ensures answer { found result ≡ read_lines blank text.now (length table.old) }
+fn read(text: &[u8], table: &mut [u8], blank: bool) -> Result<LinesFound, Refusal>
+    ensures answer { result ≡ read_lines blank text.now (length table.old) }
     ensures table { table.new ≡ left (read_lines blank text.now (length table.old)) (λ l. table_in l.rows text.now) table.old }
 {
-    if table.len() < 2048 {
-        return LinesRead::Refused(18, 2048);
+    if table.len() < ROOM {
+        return Err(Reason::ShortBuffer.at(ROOM));
     }
-    let read = judge(text, blank);
-    let LinesRead::Read(found) = read else {
-        return read;
-    };
+    let found = judge(text, blank)?;
     put_rows(table, text, found.rows as usize);
-    read
+    Ok(found)
 }
 
 // Reads to the end of the text.
-pub fn read_lines(text: &[u8], table: &mut [u8]) -> LinesRead
-    ensures answer { found result ≡ read_lines false text.now (length table.old) }
+pub fn read_lines(text: &[u8], table: &mut [u8]) -> Result<LinesFound, Refusal>
+    ensures answer { result ≡ read_lines false text.now (length table.old) }
     ensures table { table.new ≡ left (read_lines false text.now (length table.old)) (λ l. table_in l.rows text.now) table.old }
 {
     read(text, table, false)
 }
 
 // Reads to an empty line, even as line 256; without one, to the end of the text.
-pub fn read_lines_until_empty(text: &[u8], table: &mut [u8]) -> LinesRead
-    ensures answer { found result ≡ read_lines true text.now (length table.old) }
+pub fn read_lines_until_empty(text: &[u8], table: &mut [u8]) -> Result<LinesFound, Refusal>
+    ensures answer { result ≡ read_lines true text.now (length table.old) }
     ensures table { table.new ≡ left (read_lines true text.now (length table.old)) (λ l. table_in l.rows text.now) table.old }
 {
     read(text, table, true)

@@ -6,26 +6,25 @@ use native.Mathlib.Omega.{arith}
 use lib.IntN.{ℤ, pos}
 use lib.ListN.{length, get_or, take, drop, replicate, length-append, take-append-drop}
 use lib.Seq.{get_or-take, take_at, take-take, length-take-le}
-use borrow.Author.Tests.{lt-ltb, le-ltb}
-use Rattle.circuit.specs.Literals.{Lit, plus, minus, falsity, slot}
+use Rattle.circuit.specs.Literals.{Lit, plus, minus, slot}
 use Rattle.circuit.proofs.Wellformed.{Names}
 use Rattle.circuit.proofs.Bounds.{bound}
 use Rattle.sheet.specs.declared.Record.{Record}
-use Rattle.sheet.specs.Acceptance.{missing, record_at}
+use Rattle.sheet.specs.Acceptance.{record_at}
 use Rattle.sheet.specs.Steps.{Cell, cell, cell_at, page, pages}
 use Rattle.sheet.proofs.Counted.{CellsFor, cell_at_lem}
 use Rattle.sheet.proofs.Pages.{Narrow, page_long, page_first, narrow_at, pages_at, pages_snoc}
 use Rattle.frame.specs.Frame.{front, over}
 use Rattle.frame.specs.Literals.{literals, IsLit, AllLit}
-use Rattle.frame.proofs.Literals.{literals_of}
-use Rattle.literal_map.specs.Cells.{cell_in, cell_or, record_or}
+use Rattle.frame.proofs.Slots.{literals_of}
+use Rattle.literal_map.specs.Cells.{operand_in, InMap, cell_of}
 
 -- a literal of one of n variables has a slot
 slot_is : (n : ℕ) (l : Lit) → n < 2147483648 → Names n l → IsLit (slot l)
 slot_is n (plus i) h k = record { some = omega arith; fits = omega arith }
 slot_is n (minus i) h k = record { some = omega arith; fits = omega arith }
 
-pub slots_are : (n : ℕ) (ls : List Lit) (rest : List ℤ) → n < 2147483648 → bound ls ≤ n → AllLit (length ls) (map slot ls ++ rest)
+slots_are : (n : ℕ) (ls : List Lit) (rest : List ℤ) → n < 2147483648 → bound ls ≤ n → AllLit (length ls) (map slot ls ++ rest)
 slots_are n [] rest h b i k = absurd (omega arith)
 slots_are n (l ∷ ls) rest h b zero k = slot_is n l h (omega arith)
 slots_are n (l ∷ ls) rest h b (suc i) k = slots_are n ls rest h (omega arith) i (omega arith)
@@ -43,21 +42,27 @@ module _ (r : ℕ) (cs : List Cell) (m : List ℤ) (n : Narrow cs) (many : lengt
       let q : w ≤ 48 = omega (arith, narrow_at cs x n) in
       ap literals (sym (take-take w 48 (drop (48 * x) m) q) ∙ ap (take w) (row_at x h) ∙ ap (λ (i : ℕ). take i (page ls)) (sym k) ∙ page_first ls) ∙ literals_of ls
 
-  -- what is read of a row, by its record, is its cell
-  pub cell_read : (v : ℕ) → 0 < v → (rs : List Record) → CellsFor v rs cs → (x : ℕ) → x < r → cell_in m x (record_at rs x) ≡ cell_at cs x
-  unfolding cell_in
-  cell_read v some rs fit x h =
-      let f = cell_at_lem v some rs cs fit x in
-      ap₂ cell (literals_at x (record_at rs x).width h f.lits.size) f.under
+  module _ (v : ℕ) (some : 0 < v) (rs : List Record) (fit : CellsFor v rs cs) (x : ℕ) (h : x < r) where
+    -- what is read of a row, by its record, is its cell
+    pub cell_read : cell_of (operand_in m x (record_at rs x)) ≡ cell_at cs x
+    cell_read =
+        let f = cell_at_lem v some rs cs fit x in
+        ap₂ cell (literals_at x (record_at rs x).width h f.lits.size) f.under
 
-  -- and its slots are literals
-  pub slots_read : (v : ℕ) → 0 < v → v < 2147483648 → (rs : List Record) → CellsFor v rs cs → (x : ℕ) → x < r → AllLit (record_at rs x).width (drop (48 * x) m)
-  slots_read v some few rs fit x h i k =
-      let f = cell_at_lem v some rs cs fit x in
-      let ls = (cell_at cs x).literals in
-      let near : i < 48 = omega (arith, narrow_at cs x n, f.lits.size) in
-      let e : get_or (drop (48 * x) m) i (pos 0) ≡ get_or (page ls) i (pos 0) = sym (get_or-take 48 (drop (48 * x) m) i (pos 0) near) ∙ ap (λ (l : List ℤ). get_or l i (pos 0)) (row_at x h) in
-      rw e (slots_are v ls (replicate (48 - length ls) (pos 0)) few f.lits.low i (omega (arith, f.lits.size)))
+    -- its slots are literals
+    slots_read : v < 2147483648 → AllLit (record_at rs x).width (drop (48 * x) m)
+    slots_read few i k =
+        let f = cell_at_lem v some rs cs fit x in
+        let ls = (cell_at cs x).literals in
+        let near : i < 48 = omega (arith, narrow_at cs x n, f.lits.size) in
+        let e : get_or (drop (48 * x) m) i (pos 0) ≡ get_or (page ls) i (pos 0) = sym (get_or-take 48 (drop (48 * x) m) i (pos 0) near) ∙ ap (λ (l : List ℤ). get_or l i (pos 0)) (row_at x h) in
+        rw e (slots_are v ls (replicate (48 - length ls) (pos 0)) few f.lits.low i (omega (arith, f.lits.size)))
+
+    -- so the map has the row
+    pub row_in : v < 2147483648 → 48 * r ≤ length m → InMap m x (record_at rs x)
+    row_in few long =
+        let f = cell_at_lem v some rs cs fit x in
+        record { some = f.some; narrow = omega (arith, narrow_at cs x n, f.lits.size); long = omega arith; all = slots_read few }
 
   -- what is written of a row is a row more
   pub map_more : (c : Cell) → length c.literals ≤ 48 → 48 * r + 48 ≤ length m → take (48 * (r + 1)) (over (48 * r) (page c.literals) m) ≡ pages (cs ++ c ∷ [])
@@ -70,19 +75,3 @@ module _ (r : ℕ) (cs : List Cell) (m : List ℤ) (n : Narrow cs) (many : lengt
       ∙ take_at (take (48 * r) m ++ v) rest (48 * (r + 1)) l
       ∙ ap (λ (u : List ℤ). u ++ v) e
       ∙ sym (pages_snoc cs c)
-
--- what is loaded of a row, or stands for one that is not earlier, is its cell
-module _ (m : List ℤ) (rows x : ℕ) (r : Record) where
-  pub cell_inside : (bits : List ℤ) → x < rows → bits ≡ take r.width (drop (48 * x) m) → cell (literals bits) r.denominator ≡ cell_or m rows x r
-  unfolding cell_or cell_in
-  cell_inside bits h e = rw (lt-ltb x rows h, e)
-
-  pub cell_outside : rows ≤ x → cell (falsity ∷ []) 1 ≡ cell_or m rows x r
-  unfolding cell_or cell_in
-  cell_outside h = rw (le-ltb x rows h)
-
-  pub record_inside : x < rows → r ≡ record_or rows x r
-  record_inside h = rw (lt-ltb x rows h)
-
-  pub record_outside : rows ≤ x → missing ≡ record_or rows x r
-  record_outside h = rw (le-ltb x rows h)

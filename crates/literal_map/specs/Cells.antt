@@ -1,20 +1,19 @@
--- A row's cell as the literal map and its record have it. Assumes nothing.
-use Rattle.std.specs.Prelude.{◌≡◌, List, [], ◌∷◌, ℕ, ◌+◌, ◌*◌, ◌≤◌, ◌<◌, ltb, ℤ, length, take, drop}
-use Rattle.whole.specs.Tests.{if◌then◌otherwise◌}
+-- A row as the literal map and its record have it. Assumes nothing.
+use Rattle.std.specs.Prelude.{◌≡◌, List, [], ◌∷◌, ℕ, ◌+◌, ◌*◌, ◌≤◌, ◌<◌, ℤ, length, take, drop}
 use Rattle.circuit.specs.Literals.{falsity}
 use Rattle.sheet.specs.declared.Record.{Record}
 use Rattle.sheet.specs.Acceptance.{missing}
 use Rattle.sheet.specs.Steps.{Cell, cell}
-use Rattle.frame.specs.Literals.{literals, literals_in, AllLit, IsNumber}
+use Rattle.frame.specs.Literals.{literals, AllLit}
 use Rattle.literal_map.specs.declared.Operand.{Operand}
 
 -- row x, whose record is r
-unfoldable pub cell_in : List ℤ → (x : ℕ) → Record → Cell
-cell_in map x r = cell (literals (take r.width (drop (48 * x) map))) r.denominator
+abbrev pub operand_in : List ℤ → (x : ℕ) → Record → Operand
+operand_in map x r = record { number = literals (take r.width (drop (48 * x) map)); «record» = r }
 
--- a row that is not among the first is false
-unfoldable pub cell_or : List ℤ → (rows x : ℕ) → Record → Cell
-cell_or map rows x r = if ltb x rows then cell_in map x r otherwise cell (falsity ∷ []) 1
+-- what stands for a row that is not earlier
+abbrev pub false_row : Operand
+false_row = record { number = falsity ∷ []; «record» = missing }
 
 pub record InMap (map : List ℤ) (x : ℕ) (r : Record) : Type 0 where
   pub some : 1 ≤ r.width
@@ -22,23 +21,20 @@ pub record InMap (map : List ℤ) (x : ℕ) (r : Record) : Type 0 where
   pub long : 48 * x + 48 ≤ length map
   pub all : AllLit r.width (drop (48 * x) map)
 
-abbrev pub record_or : (rows x : ℕ) → Record → Record
-record_or rows x r = if ltb x rows then r otherwise missing
-
 -- the map has the literals of row x if it is among the first
 abbrev pub Held : List ℤ → (rows x : ℕ) → Record → Type 0
 Held map rows x r = x < rows → InMap map x r
 
 -- as many literals as the record says
 pub record IsOperand (o : Operand) : Type 0 where
-  pub number : IsNumber o.number
-  pub width : o.number.width ≡ o.record.width
+  pub some : 1 ≤ o.record.width
+  pub width : length o.number ≡ o.record.width
 
 abbrev pub cell_of : Operand → Cell
-cell_of o = cell (literals_in o.number) o.record.denominator
+cell_of o = cell o.number o.record.denominator
 
--- what is referred to: the cell of an earlier row with its record, or falsity
+-- what is referred to: an earlier row with its record, or else false
 pub record Referred (map : List ℤ) (rows x : ℕ) (of : Record) (o : Operand) : Type 0 where
-  pub is_cell : cell_of o ≡ cell_or map rows x of
-  pub is_record_lem : o.record ≡ record_or rows x of
+  pub earlier : x < rows → o ≡ operand_in map x of
+  pub not_earlier : rows ≤ x → o ≡ false_row
   pub operand : IsOperand o

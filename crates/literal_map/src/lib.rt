@@ -4,25 +4,17 @@
 ghost use Rattle.std.specs.Prelude.{◌≡◌, ◌+◌, ◌*◌, ◌≤◌, pos, length, get_or, take, drop};
 ghost use Rattle.sheet.specs.Steps.{page};
 ghost use Rattle.frame.specs.Frame.{over};
-ghost use Rattle.frame.specs.Literals.{AllLit, IsNumber, slots_in, literals_in};
+ghost use Rattle.frame.specs.Literals.{literals, AllLit};
 ghost use Rattle.literal_map.specs.Cells.{Held, Referred};
 
-use frame::Number;
-use sheet::{Fields, MISSING, Record};
+use frame::{Lit, Number};
+use sheet::{Fields, MISSING, Record, References};
 
 // A row that another refers to: its literals and its record.
 #[derive(Clone, Copy)]
 pub struct Operand {
     pub number: Number,
     pub record: Record,
-}
-
-// The rows that a row's x, y and z name.
-#[derive(Clone, Copy)]
-pub struct Operands {
-    pub a: Operand,
-    pub b: Operand,
-    pub c: Operand,
 }
 
 // How many places the map of so many rows has.
@@ -43,66 +35,60 @@ pub fn first(map: &[i32], row: usize) -> i32
 
 // The first `width` literals of a row.
 fn load(map: &[i32], row: usize, width: usize) -> Number
-    requires width_most { width ≤ 48 }
+    requires narrow { width ≤ 48 }
     requires map_room { 48 * row + 48 ≤ length map.now }
     requires all_lit { AllLit width (drop (48 * row) map.now) }
-    ensures literals { slots_in result ≡ take width (drop (48 * row) map.now) }
-    ensures width_is { result.width ≡ width }
-    ensures all_lit_width_bits { AllLit width result.bits }
+    ensures { result ≡ literals (take width (drop (48 * row) map.now)) }
 {
-    let mut bits = [-1; 48];
-    gate::put(&mut bits, &map[48 * row..48 * row + width]);
-    Number { bits, width }
+    let mut number = Number::empty();
+    for slot in &map[48 * row..48 * row + width] {
+        number.push(Lit::read(*slot));
+    }
+    number
 }
 
 // A row's 48 places: its literals, then zeros.
-fn page(number: Number) -> [i32; 48]
-    requires { IsNumber number }
-    ensures { result ≡ page (literals_in number) }
+pub fn store(map: &mut [i32], row: usize, number: &Number)
+    requires { 48 * row + 48 ≤ length map.old }
+    ensures { map.new ≡ over (48 * row) (page number.now) map.old }
 {
-    let bits = number.bits;
     let mut places = [0; 48];
-    gate::put(&mut places, &bits[..number.width]);
-    places
-}
-
-pub fn store(map: &mut [i32], row: usize, number: Number)
-    requires is_number_number { IsNumber number }
-    requires map_room { 48 * row + 48 ≤ length map.old }
-    ensures { map.new ≡ over (48 * row) (page (literals_in number)) map.old }
-{
-    let places = page(number);
-    gate::put(&mut map[48 * row..], &places);
+    for (i, literal) in number.literals().iter().enumerate() {
+        places[i] = literal.slot();
+    }
+    map[48 * row..48 * row + 48].copy_from_slice(&places);
 }
 
 // The row x as one after `rows` others may refer to it, `of` its record; a row that is not earlier is false.
-fn refer(map: &[i32], rows: usize, x: usize, of: Record) -> Operand
+fn refer(map: &[i32], rows: usize, x: u16, of: Record) -> Operand
     requires { Held map.now rows x of }
     ensures { Referred map.now rows x of result }
 {
+    let x = usize::from(x);
     if x < rows {
         let number = load(map, x, of.width as usize);
         return Operand { number, record: of };
     }
-    let number = Number {
-        bits: [-1; 48],
-        width: 1,
-    };
+    let mut number = Number::empty();
+    number.push(Lit::FALSITY);
     Operand {
         number,
         record: MISSING,
     }
 }
 
-// The rows that a row after `rows` others refers to, whose records are a, b and c as far as they are earlier.
-pub fn refer_all(map: &[i32], rows: usize, f: Fields, a: Record, b: Record, c: Record) -> Operands
-    requires { (Held map.now rows f.x a) × ((Held map.now rows f.y b) × (Held map.now rows f.z c)) }
-    ensures x { Referred map.now rows f.x a result.a }
-    ensures y { Referred map.now rows f.y b result.b }
-    ensures z { Referred map.now rows f.z c result.c }
+// The rows that a row after `rows` others refers to, whose records are `of` as far as they are earlier.
+pub fn refer_all(map: &[i32], rows: usize, f: Fields, of: References<Record>) -> References<Operand>
+    requires held_x { Held map.now rows f.x of.x }
+    requires held_y { Held map.now rows f.y of.y }
+    requires held_z { Held map.now rows f.z of.z }
+    ensures x { Referred map.now rows f.x of.x result.x }
+    ensures y { Referred map.now rows f.y of.y result.y }
+    ensures z { Referred map.now rows f.z of.z result.z }
 {
-    let x = refer(map, rows, f.x as usize, a);
-    let y = refer(map, rows, f.y as usize, b);
-    let z = refer(map, rows, f.z as usize, c);
-    Operands { a: x, b: y, c: z }
+    References {
+        x: refer(map, rows, f.x, of.x),
+        y: refer(map, rows, f.y, of.y),
+        z: refer(map, rows, f.z, of.z),
+    }
 }

@@ -1,3 +1,3 @@
--- Laws of widening and of constants' bits. Assumes nothing.
-pub mod Widening
+-- Laws of the literals of constants, and of a sign repeated. Assumes nothing.
 pub mod Constants
+pub mod Widening

@@ -1,3 +1,3 @@
--- The operands of a row that is extended, and two of them brought to one denominator. Assumes nothing.
+-- The operands of a row that is extended, and what its gates hold of them. Assumes nothing.
 pub mod Operands
-pub mod Brought
+pub mod Operations

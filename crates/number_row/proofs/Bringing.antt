@@ -1,195 +1,121 @@
--- Two numbers are brought to one denominator, then the operation on them is written. Assumes nothing.
-use mathlib.Core.Path.{◌≡◌, sym, ap, ◌∙◌}
-use mathlib.Core.List.{List, [], ◌∷◌, map}
-use Prim.Native.Nat.{ℕ, ◌*◌, ◌/◌, ◌≤◌, ◌<◌}
+-- Two numbers are brought to one denominator, then the operation on them is written, and answered as a row. Assumes nothing.
+use mathlib.Core.Path.{◌≡◌, ap, ◌∙◌}
+use mathlib.Core.List.{List}
+use Prim.Native.Nat.{ℕ, ◌*◌, ◌/◌, ◌≤◌, ◌<◌, max}
 use native.Mathlib.Nat.{le_trans, mul-le-mul, div-le_self}
 use native.Mathlib.Omega.{arith}
 use lib.IntN.{ℤ}
+use lib.ListN.{length}
 use Rattle.whole.specs.Divisors.{gcd, lcm}
-use Rattle.circuit.specs.Literals.{Lit, slot}
-use Rattle.circuit.specs.Circuits.{Circuit, ret, ◌>>=◌, gates, out}
+use Rattle.circuit.specs.Literals.{Lit}
+use Rattle.circuit.specs.Circuits.{Circuit, ret, ◌>>=◌}
 use Rattle.circuit.specs.Numbers.{expansion}
-use Rattle.circuit.specs.Counting.{expanded_width}
-use Rattle.circuit.proofs.Lengths.{bind_assoc, gates_same, out_same}
+use Rattle.circuit.proofs.Lengths.{bind_assoc}
 use Rattle.sheet.specs.Acceptance.{larger}
-use Rattle.sheet.specs.Steps.{Cell, cell, boolean_cell, number_cell, least, brought}
-use Rattle.frame.specs.declared.Number.{Number}
+use Rattle.sheet.specs.Steps.{Cell, least, brought}
+use Rattle.frame.specs.declared.Cursor.{Cursor}
 use Rattle.frame.specs.declared.Made.{Made}
-use Rattle.frame.specs.declared.Truth.{Truth}
-use Rattle.frame.specs.Literals.{literals, IsLit, IsNumber, slots_in, literals_in}
-use Rattle.frame.specs.Written.{Room, Wrote}
-use Rattle.frame.proofs.Literals.{literals_of}
-use Rattle.frame.proofs.Writing.{bind_first, bind_next, bind_out, bind_wrote}
+use Rattle.frame.specs.Written.{RoomFor, Makes}
+use Rattle.frame.proofs.Writing.{makes_none, bind_first, bind_next, bind_makes}
 use Rattle.numbers.specs.Bounds.{Denominator}
 use Rattle.literal_map.specs.declared.Operand.{Operand}
-use Rattle.literal_map.specs.Cells.{IsOperand, cell_of}
-use Rattle.literal_map.specs.Rows.{RowMade, LitMade}
+use Rattle.literal_map.specs.Cells.{cell_of}
+use Rattle.literal_map.specs.Rows.{RowMade}
 use Rattle.number_row.specs.declared.Pair.{Pair}
-use Rattle.number_row.specs.Bringing.{both, PairMade}
-
--- the literals of both, then the operation on them
-module _ {A : Type 0} (a b : Cell) (made : List Lit → List Lit → Circuit A) where
-  abbrev on_both : List Lit × List Lit → Circuit A
-  on_both t = made t.0 t.1
-
-  brought_both : brought a b made ≡ (both a b >>= on_both)
-  brought_both =
-      let p = expansion (least a b / a.denominator) a.literals in
-      let q = expansion (least a b / b.denominator) b.literals in
-      sym
-      (bind_assoc p (λ xs. q >>= λ ys. ret (xs, ys)) on_both
-      ∙ λ i. p >>= λ xs. bind_assoc q (λ ys. ret (xs, ys)) on_both i)
+use Rattle.number_row.specs.Over.{IsOver}
+use Rattle.number_row.specs.Bringing.{both}
+use Rattle.number_row.proofs.Widths.{expansion_width}
 
 -- a factor is below the limit of one
 least_most : (a b : ℕ) → Denominator a → Denominator b → lcm a b ≤ 4096 * 4096
 unfolding lcm
 least_most a b p q = mul-le-mul (le_trans (div-le_self a (gcd a b)) p.most) q.most
 
-pub factor_most : (common a b d : ℕ) → common ≡ lcm a b → Denominator a → Denominator b → common / d < 2147483648
-factor_most common a b d e p q = omega (arith, e, least_most a b p q, div-le_self common d)
+pub factor_below : (common a b d : ℕ) → common ≡ lcm a b → Denominator a → Denominator b → common / d < 2147483648
+factor_below common a b d e p q = omega (arith, e, least_most a b p q, div-le_self common d)
 
--- what the writer of an expansion leaves and answers
-abbrev Expanded : (f : ℕ) → Number → (at n : ℕ) → (before after : List ℤ) → Made → Type 0
-Expanded f a at n before after m =
-    Wrote at n (gates n (expansion f (literals_in a))) before after m.at m.next
-    × ((slots_in m.number ≡ map slot (out n (expansion f (literals_in a)))) × (IsNumber m.number × (m.number.width ≡ expanded_width a.width f)))
+abbrev paired : List Lit → List Lit → Pair
+paired xs ys = record { x = xs; y = ys }
 
 -- x is expanded, then y, over the least common multiple
 module _ (a b : Operand) (common : ℕ) (is-least : common ≡ least (cell_of a) (cell_of b)) where
-  abbrev factor_a : ℕ
-  factor_a = common / a.record.denominator
-
-  abbrev factor_b : ℕ
-  factor_b = common / b.record.denominator
-
-  pub fits_a : IsOperand a → larger a.record b.record ≤ 48 → expanded_width a.number.width factor_a ≤ 48
-  fits_a o h = rw (is-least, o.width) (omega (arith, h))
-
-  pub fits_b : IsOperand b → larger a.record b.record ≤ 48 → expanded_width b.number.width factor_b ≤ 48
-  fits_b o h = rw (is-least, o.width) (omega (arith, h))
-
   abbrev expand_a : Circuit (List Lit)
-  expand_a = expansion factor_a (literals_in a.number)
+  expand_a = expansion (common / a.record.denominator) a.number
 
   abbrev expand_b : Circuit (List Lit)
-  expand_b = expansion factor_b (literals_in b.number)
+  expand_b = expansion (common / b.record.denominator) b.number
 
-  abbrev rest : List Lit → Circuit (List Lit × List Lit)
-  rest xs = expand_b >>= λ ys. ret (xs, ys)
+  abbrev then_b : List Lit → Circuit Pair
+  then_b xs = expand_b >>= λ ys. ret (paired xs ys)
 
-  is_both : (expand_a >>= rest) ≡ both (cell_of a) (cell_of b)
+  is_both : (expand_a >>= then_b) ≡ both a b
   is_both = rw is-least
 
-  module _ {from first : ℕ} {before : List ℤ} (room : Room from first (gates first (both (cell_of a) (cell_of b))) before) where
-    room_both : Room from first (gates first (expand_a >>= rest)) before
+  module _ {from : Cursor} {before : List ℤ} (room : RoomFor from (both a b) before) where
+    room_both : RoomFor from (expand_a >>= then_b) before
     room_both = rw is_both room
 
-    pub first_room : Room from first (gates first expand_a) before
-    first_room = bind_first expand_a rest room_both
+    pub first_room : RoomFor from expand_a before
+    first_room = bind_first expand_a then_b room_both
 
-    module _ {middle : List ℤ} {p : Made} (u : Expanded factor_a a.number from first before middle p) where
-      abbrev xs : List Lit
-      xs = literals_in p.number
+    module _ {middle : List ℤ} {p : Made (List Lit)} (u : Makes from expand_a before middle p) where
+      room_b : RoomFor p.to (then_b p.value) middle
+      room_b = bind_next expand_a then_b room_both u
 
-      xs_are : xs ≡ out first expand_a
-      xs_are = ap literals u.1.0 ∙ literals_of (out first expand_a)
+      pub second_room : RoomFor p.to expand_b middle
+      second_room = bind_first expand_b (λ ys. ret (paired p.value ys)) room_b
 
-      same_gates : gates p.next (rest xs) ≡ gates p.next expand_b
-      same_gates = gates_same {B = List Lit × List Lit} p.next expand_b (λ ys. (xs, ys))
+      module _ {after : List ℤ} {q : Made (List Lit)} (v : Makes p.to expand_b middle after q) where
+        pub pair_made : Makes from (both a b) before after (record { value = paired p.value q.value; to = q.to })
+        pair_made =
+            rw is_both at (bind_makes expand_a then_b room_both u (bind_makes expand_b (λ ys. ret (paired p.value ys)) room_b v (makes_none q.to (paired p.value q.value) after)))
 
-      same_out : out p.next (rest xs) ≡ (xs, out p.next expand_b)
-      same_out = out_same {B = List Lit × List Lit} p.next expand_b (λ ys. (xs, ys))
+        -- as wide as acceptance says
+        pub pair_wide : IsOver a → IsOver b → max (length p.value) (length q.value) ≡ larger a.record b.record
+        pair_wide over_a over_b =
+            let x = ap length u.value ∙ expansion_width from.next (common / a.record.denominator) a.number (omega (arith, over_a.operand)) in
+            let y = ap length v.value ∙ expansion_width p.to.next (common / b.record.denominator) b.number (omega (arith, over_b.operand)) in
+            rw (x, y, over_a.operand.width, over_b.operand.width, is-least)
 
-      pub second_room : Room p.at p.next (gates p.next expand_b) middle
-      second_room = rw same_gates at (bind_next expand_a rest room_both {answer = xs} u.0 xs_are)
+-- what a circuit makes is a row
+module _ {A : Type 0} (c : Circuit A) (f : A → Cell) {from : Cursor} {before : List ℤ} (room : RoomFor from (c >>= λ r. ret (f r)) before) where
+  pub row_room : RoomFor from c before
+  row_room = bind_first c (λ r. ret (f r)) room
 
-      module _ {after : List ℤ} {q : Made} (v : Expanded factor_b b.number p.at p.next middle after q) where
-        both_wrote : Wrote from first (gates first (both (cell_of a) (cell_of b))) before after q.at q.next
-        both_wrote =
-            let w : Wrote p.at p.next (gates p.next (rest xs)) middle after q.at q.next = rw same_gates v.0 in
-            rw is_both at (bind_wrote expand_a rest room_both {answer = xs} u.0 xs_are w)
+  pub row_made : {after : List ℤ} {m : Made A} {row : Made (List Lit)} → Makes from c before after m → row.value ≡ (f m.value).literals → row.to ≡ m.to
+      → RowMade from (c >>= λ r. ret (f r)) before after row
+  row_made {after} {m} w e t =
+      let r = bind_makes c (λ r. ret (f r)) room w (makes_none m.to (f m.value) after) in
+      record { wrote = rw t r.wrote; literals = e ∙ ap (λ (v : Cell). v.literals) r.value }
 
-        both_out : (xs, literals_in q.number) ≡ out first (both (cell_of a) (cell_of b))
-        both_out =
-            ap (λ (ys : List Lit). (xs, ys)) (ap literals v.1.0 ∙ literals_of (out p.next expand_b))
-            ∙ sym (bind_out expand_a rest room_both {answer = xs} u.0 xs_are ∙ same_out)
-            ∙ ap (out first) is_both
+-- an operation on two numbers that are brought to one denominator
+module _ {A : Type 0} (a b : Operand) (made : List Lit → List Lit → Circuit A) (f : A → Cell) {from : Cursor} {before : List ℤ}
+    (room : RoomFor from (brought (cell_of a) (cell_of b) made >>= λ r. ret (f r)) before) where
+  abbrev whole : Circuit A
+  whole = brought (cell_of a) (cell_of b) made
 
-        pub pair_made : IsOperand a → IsOperand b → PairMade from first a b before after (record { x = p.number; y = q.number; at = q.at; next = q.next })
-        pair_made is-a is_b = record {
-          wrote = both_wrote;
-          literals = both_out;
-          number_x = u.1.1.0;
-          number_y = v.1.1.0;
-          width_x = u.1.1.1 ∙ rw (is-a.width, is-least);
-          width_y = v.1.1.1 ∙ rw (is_b.width, is-least);
-        }
+  abbrev then : Pair → Circuit A
+  then p = made p.x p.y
 
--- an operation over two rows
-module _ {A : Type 0} (a b : Operand) (made : List Lit → List Lit → Circuit A) {from first : ℕ} {before : List ℤ}
-    (room : Room from first (gates first (brought (cell_of a) (cell_of b) made)) before) where
-  abbrev pairs : Circuit (List Lit × List Lit)
-  pairs = both (cell_of a) (cell_of b)
+  both_then : (both a b >>= then) ≡ whole
+  both_then =
+      let d = least (cell_of a) (cell_of b) in
+      let x = expansion (d / a.record.denominator) a.number in
+      let y = expansion (d / b.record.denominator) b.number in
+      bind_assoc x (λ xs. y >>= λ ys. ret (paired xs ys)) then ∙ λ i. x >>= λ xs. bind_assoc y (λ ys. ret (paired xs ys)) then i
 
-  abbrev then : List Lit × List Lit → Circuit A
-  then = on_both (cell_of a) (cell_of b) made
-
-  joined : Room from first (gates first (pairs >>= then)) before
-  joined = rw (brought_both (cell_of a) (cell_of b) made) at room
+  joined : RoomFor from (both a b >>= then) before
+  joined = rw both_then (row_room whole f room)
 
   -- there is room to bring them
-  pub bring_room : Room from first (gates first pairs) before
-  bring_room = bind_first pairs then joined
+  pub bring_room : RoomFor from (both a b) before
+  bring_room = bind_first (both a b) then joined
 
-  module _ {middle : List ℤ} {p : Pair} (m : PairMade from first a b before middle p) where
-    abbrev answer : List Lit × List Lit
-    answer = (literals_in p.x, literals_in p.y)
-
+  module _ {middle : List ℤ} {p : Made Pair} (u : Makes from (both a b) before middle p) where
     -- and then for the operation
-    pub next_room : Room p.at p.next (gates p.next (made (literals_in p.x) (literals_in p.y))) middle
-    next_room = bind_next pairs then joined {answer = answer} m.wrote m.literals
+    pub next_room : RoomFor p.to (made p.value.x p.value.y) middle
+    next_room = bind_next (both a b) then joined u
 
-    brought_out : out first (brought (cell_of a) (cell_of b) made) ≡ out p.next (made (literals_in p.x) (literals_in p.y))
-    brought_out = ap (out first) (brought_both (cell_of a) (cell_of b) made) ∙ bind_out pairs then joined {answer = answer} m.wrote m.literals
-
-    brought_wrote : {end : List ℤ} {at next : ℕ} → Wrote p.at p.next (gates p.next (made (literals_in p.x) (literals_in p.y))) middle end at next
-        → Wrote from first (gates first (brought (cell_of a) (cell_of b) made)) before end at next
-    brought_wrote w = rw (brought_both (cell_of a) (cell_of b) made) (bind_wrote pairs then joined {answer = answer} m.wrote m.literals w)
-
--- a row of the number that a circuit answers
-module _ {from first : ℕ} {before : List ℤ} (d : ℕ) (c : Circuit (List Lit)) where
-  pub number_room : Room from first (gates first (number_cell d c)) before → Room from first (gates first c) before
-  number_room r = rw (gates_same first c (λ ls. cell ls d)) at r
-
-  pub number_made : {after : List ℤ} {m : Made} → Wrote from first (gates first c) before after m.at m.next
-      → (slots_in m.number ≡ map slot (out first c)) × IsNumber m.number → RowMade from first (number_cell d c) before after m
-  number_made w e = record {
-    wrote = rw (gates_same first c (λ ls. cell ls d)) w;
-    literals = ap literals e.0 ∙ literals_of (out first c) ∙ sym (ap (λ (v : Cell). v.literals) (out_same first c (λ ls. cell ls d)));
-    number = e.1;
-  }
-
--- and of the literal
-pub literal_room : {from first : ℕ} {before : List ℤ} (c : Circuit Lit) → Room from first (gates first (boolean_cell c)) before → Room from first (gates first c) before
-literal_room {first = first} c r = rw (gates_same first c (λ l. cell (l ∷ []) 1)) at r
-
--- what an operation over two rows answers, as a row
-module _ (a b : Operand) {from first : ℕ} {before middle after : List ℤ} {p : Pair} (m : PairMade from first a b before middle p) where
-  pub number_brought : (d : ℕ) (made : List Lit → List Lit → Circuit (List Lit)) → Room from first (gates first (number_cell d (brought (cell_of a) (cell_of b) made))) before
-      → {r : Made} → Wrote p.at p.next (gates p.next (made (literals_in p.x) (literals_in p.y))) middle after r.at r.next
-      → (slots_in r.number ≡ map slot (out p.next (made (literals_in p.x) (literals_in p.y)))) × IsNumber r.number
-      → RowMade from first (number_cell d (brought (cell_of a) (cell_of b) made)) before after r
-  number_brought d made room w e =
-      let c = brought (cell_of a) (cell_of b) made in
-      let r = number_room d c room in
-      number_made d c (brought_wrote a b made r m w) (e.0 ∙ ap (map slot) (sym (brought_out a b made r m)), e.1)
-
-  pub literal_brought : (made : List Lit → List Lit → Circuit Lit) → Room from first (gates first (brought (cell_of a) (cell_of b) made)) before
-      → {t : Truth} → Wrote p.at p.next (gates p.next (made (literals_in p.x) (literals_in p.y))) middle after t.at t.next
-      → (t.literal ≡ slot (out p.next (made (literals_in p.x) (literals_in p.y)))) × IsLit t.literal
-      → LitMade from first (brought (cell_of a) (cell_of b) made) before after t
-  literal_brought made room w e = record {
-    wrote = brought_wrote a b made room m w;
-    literal = e.0 ∙ ap slot (sym (brought_out a b made room m));
-    is_lit = e.1;
-  }
+    pub brought_made : {after : List ℤ} {m : Made A} {row : Made (List Lit)} → Makes p.to (made p.value.x p.value.y) middle after m → row.value ≡ (f m.value).literals → row.to ≡ m.to
+        → RowMade from (whole >>= λ r. ret (f r)) before after row
+    brought_made v e t = row_made whole f room (rw both_then at (bind_makes (both a b) then joined u v)) e t

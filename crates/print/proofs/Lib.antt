@@ -1,6 +1,6 @@
 -- Laws of the printers. Assumes nothing.
 pub mod Puts
-pub mod Signs
+pub mod Numerals
 pub mod Pages
 pub mod Pieces
 pub mod Whole

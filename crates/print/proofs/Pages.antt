@@ -1,7 +1,7 @@
 -- A page, piece by piece; and the pages one after the other are the text. Assumes nothing.
 use mathlib.Core.Path.{◌≡◌, refl, sym, ap, ◌∙◌}
 use mathlib.Core.List.{List, [], ◌∷◌, ◌++◌, append_assoc}
-use Prim.Native.Nat.{ℕ, zero, suc, ◌+◌, ◌-◌, ◌≤◌, ◌<◌}
+use Prim.Native.Nat.{ℕ, zero, suc, ◌+◌, ◌-◌, ◌≤◌, ◌<◌, max}
 use native.Mathlib.Nat.{add-zero, sub-zero}
 use native.Mathlib.Numerals.{add-one}
 use native.Mathlib.Omega.{arith}
@@ -95,8 +95,15 @@ module _ {pieces : List (List ℕ)} {from : ℕ} {out₀ out : List ℕ} {next s
   pub left_full : next < length pieces → length out - size < 64 → Printed pieces from out₀ out (record { next = next; size = size })
   left_full h k = done (fitting_full pieces next (length out₀ - size) h (omega (arith, i.long)))
 
-  pub left_end : length pieces ≤ next → Printed pieces from out₀ out (record { next = next; size = size })
-  left_end h = done (fitting_end pieces next (length out₀ - size) h)
+  -- the loop has come to the last piece, or never began
+  pub left_end : length pieces ≤ next → (from ≤ length pieces → next ≤ length pieces) → Printed pieces from out₀ out (record { next = max from (length pieces); size = size })
+  left_end h k =
+      let e = done (fitting_end pieces next (length out₀ - size) h) in
+      rw (← reached (dec_lt from (length pieces))) e
+    where
+      reached : Dec (from < length pieces) → next ≡ max from (length pieces)
+      reached (yes g) = omega (arith, k)
+      reached (no g) = omega (arith, i.count, fitting_end pieces next (length out₀ - size) h, fitting_end pieces from (length out₀) (omega arith))
 
 -- ---- the pages one after the other
 

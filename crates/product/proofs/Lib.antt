@@ -1,2 +1,2 @@
--- The product's turns. Assumes nothing.
+-- The turns of a row and of a product. Assumes nothing.
 pub mod Turns

@@ -1,73 +1,65 @@
--- One turn of a row of AND gates, and one row of a product: their circuits, at a place of the arrays. Assumes nothing.
-use mathlib.Core.Path.{◌≡◌, sym, ap, ◌∙◌}
+-- One turn of a row of AND gates, and one row of a product. Assumes nothing.
+use mathlib.Core.Path.{◌≡◌, refl}
 use mathlib.Core.List.{List, [], ◌∷◌, ◌++◌}
-use Prim.Native.Nat.{ℕ, suc, ◌+◌, ◌-◌, ◌≤◌, ◌<◌}
+use mathlib.Core.Logic.{◌⊎◌, inl, inr}
+use Prim.Native.Nat.{ℕ, zero, suc, ◌≤◌, ◌<◌}
 use native.Mathlib.Omega.{arith}
-use native.Mathlib.Numerals.{add-one}
 use lib.IntN.{ℤ}
-use lib.ListN.{length, take, drop, length-map, length-drop}
-use lib.Seq.{length-take-le}
+use lib.ListN.{length}
 use Rattle.circuit.specs.Literals.{Lit, plus, falsity}
-use Rattle.circuit.specs.Gates.{Gate, and}
-use Rattle.circuit.specs.Circuits.{Circuit, ret, ◌>>=◌, gates, out}
-use Rattle.circuit.specs.Numbers.{adder, ands, add_rows, multiplier}
-use Rattle.circuit.proofs.Lengths.{gates_bind, out_bind, after, bind_assoc, gates_same, out_same}
-use Rattle.frame.specs.Literals.{unslot, literals, literal_at, between}
-use Rattle.frame.proofs.Literals.{between_cons, between_none}
+use Rattle.circuit.specs.Gates.{and}
+use Rattle.circuit.specs.Circuits.{Circuit, ret, make, ◌>>=◌, out}
+use Rattle.circuit.specs.Numbers.{adder, ands, add_rows}
+use Rattle.circuit.proofs.Lengths.{out_bind, out_same, bind_assoc}
+use Rattle.frame.specs.declared.Cursor.{Cursor}
+use Rattle.frame.specs.declared.Made.{Made}
+use Rattle.frame.specs.Written.{RoomFor, Makes}
+use Rattle.frame.proofs.Loops.{Filling, filling_room, filling_turn}
+use Rattle.product.specs.Multiplying.{added_row}
 
--- ---- a row of AND gates: bit j of x goes to place i
-module _ (i j w : ℕ) (x : List ℤ) (y : Lit) (n : ℕ) where
-  -- there is a place left
-  module _ (h : i < w) (k : j < w) (hx : w ≤ length x) where
-    one_less : w - i ≡ suc (w - (i + 1))
-    one_less = omega arith
+module _ {from : Cursor} {all : Circuit (List Lit)} {before l : List ℤ} {at : Cursor} {done : List Lit} (n : ℕ) (a : Lit) (xs : List Lit) (bit : Lit)
+    (h : Filling from all before l at done (ands (suc n) (a ∷ xs) bit)) where
+  pub and_room : RoomFor at (make (and a bit)) l
+  and_room = filling_room (make (and a bit)) (λ g. g) (λ g. ands n xs bit) h
 
-    abbrev rest : Circuit (List Lit)
-    rest = ands (w - (i + 1)) (between (j + 1) w x) y
+  pub and_turn : {l' : List ℤ} {m : Made Lit} → Makes at (make (and a bit)) l l' m → Filling from all before l' m.to (done ++ m.value ∷ []) (ands n xs bit)
+  and_turn w = filling_turn (make (and a bit)) (λ g. g) (λ g. ands n xs bit) h w
 
-    pub ands_at : gates n (ands (w - i) (between j w x) y) ≡ (and (literal_at x j) y ∷ []) ++ gates (n + 1) (ands (w - (i + 1)) (between (j + 1) w x) y)
-    ands_at = rw (one_less, between_cons j w x k hx, add-one n, gates_same (suc n) rest (λ ls. plus n ∷ ls))
+-- no place is left, or no literal
+pub ands_none : (n : ℕ) (xs : List Lit) (bit : Lit) → (0 < n → length xs ≡ 0) → ands n xs bit ≡ ret []
+ands_none zero xs bit h = refl
+ands_none (suc n) [] bit h = refl
+ands_none (suc n) (a ∷ xs) bit h = let e : length (a ∷ xs) ≡ 0 = h (omega arith) in absurd (omega arith)
 
-    pub ands_out : out n (ands (w - i) (between j w x) y) ≡ plus n ∷ out (n + 1) (ands (w - (i + 1)) (between (j + 1) w x) y)
-    ands_out = rw (one_less, between_cons j w x k hx, add-one n) (out_same (suc n) rest (λ ls. plus n ∷ ls))
+pub ands_length : (m n : ℕ) (xs : List Lit) (bit : Lit) → length (out m (ands n xs bit)) ≤ n
+ands_length m zero xs bit = omega arith
+ands_length m (suc n) [] bit = omega arith
+ands_length m (suc n) (a ∷ xs) bit = rw (out_same (suc m) (ands n xs bit) (λ ls. plus m ∷ ls)) (omega (arith, ands_length (suc m) n xs bit))
 
--- ---- a row of the product: y's bit at i + 1, and the total t from i on
-module _ (i w : ℕ) (xs : List Lit) (y t : List ℤ) (n : ℕ) where
-  abbrev pub row_at : Circuit (List Lit)
-  row_at = ands (w - (i + 1)) xs (literal_at y (i + 1)) >>= λ row. adder falsity (between (i + 1) w t) row
+-- ---- the sum of a row
+pub adder_length : (m : ℕ) (carry : Lit) (xs ys : List Lit) → length (out m (adder carry xs ys)) ≤ length xs
+adder_length m carry [] ys = omega arith
+adder_length m carry (a ∷ xs) [] = omega arith
+adder_length m carry (a ∷ xs) (b ∷ ys) =
+    rw (out_same (suc (suc (suc m))) (adder (plus (suc (suc m))) xs ys) (λ ss. plus (suc m) ∷ ss)) (omega (arith, adder_length (suc (suc (suc m))) (plus (suc (suc m))) xs ys))
 
-  -- there is a row left
-  module _ (h : i + 1 < w) (hy : w ≤ length y) (ht : w ≤ length t) where
-    high : length (between (i + 1) w t) ≡ w - (i + 1)
-    high = length-map (drop (i + 1) (take w t)) unslot ∙ length-drop (i + 1) (take w t) ∙ ap (λ (m : ℕ). m - (i + 1)) (length-take-le w t ht)
+pub row_length : (m : ℕ) (xs : List Lit) (bit : Lit) (total : List Lit) → length (out m (added_row xs bit total)) ≤ length total
+row_length m xs bit total = rw out_bind (adder_length _ falsity total _)
 
-    -- what follows the row
-    abbrev rows : List Lit → Circuit (List Lit)
-    rows total = add_rows (between (i + 1 + 1) w y) xs total >>= λ ls. ret (literal_at t i ∷ ls)
+module _ {from : Cursor} {all : Circuit (List Lit)} {before l : List ℤ} {at : Cursor} {done : List Lit} (bit : Lit) (bits xs : List Lit) (lowest : Lit) (above : List Lit)
+    (h : Filling from all before l at done (add_rows (bit ∷ bits) xs (lowest ∷ above))) where
+  rows : Filling from all before l at done (added_row xs bit above >>= λ total. add_rows bits xs total >>= λ ls. ret (lowest ∷ ls))
+  rows = rw bind_assoc h
 
-    split : add_rows (between (i + 1) w y) xs (between i w t) ≡ (row_at >>= rows)
-    split =
-        let k : i < w = omega arith in
-        rw (between_cons (i + 1) w y h hy, between_cons i w t k ht, high) (sym (bind_assoc (ands (w - (i + 1)) xs (literal_at y (i + 1))) (λ row. adder falsity (between (i + 1) w t) row) rows))
+  pub row_room : RoomFor at (added_row xs bit above) l
+  row_room = filling_room (added_row xs bit above) (λ total. lowest) (λ total. add_rows bits xs total) rows
 
-    pub rows_at : gates n (add_rows (between (i + 1) w y) xs (between i w t)) ≡ gates n row_at ++ gates (after n row_at) (add_rows (between (i + 1 + 1) w y) xs (out n row_at))
-    rows_at =
-        rw split
-        (gates_bind n row_at rows
-        ∙ ap (λ (gs : List Gate). gates n row_at ++ gs) (gates_same (after n row_at) (add_rows (between (i + 1 + 1) w y) xs (out n row_at)) (λ ls. literal_at t i ∷ ls)))
+  pub row_turn : {l' : List ℤ} {m : Made (List Lit)} → Makes at (added_row xs bit above) l l' m → Filling from all before l' m.to (done ++ lowest ∷ []) (add_rows bits xs m.value)
+  row_turn w = filling_turn (added_row xs bit above) (λ total. lowest) (λ total. add_rows bits xs total) rows w
 
-    pub rows_out : out n (add_rows (between (i + 1) w y) xs (between i w t)) ≡ literal_at t i ∷ out (after n row_at) (add_rows (between (i + 1 + 1) w y) xs (out n row_at))
-    rows_out = rw split (out_bind n row_at rows ∙ out_same (after n row_at) (add_rows (between (i + 1 + 1) w y) xs (out n row_at)) (λ ls. literal_at t i ∷ ls))
-
-  -- there is none
-  module _ (h : w ≤ i + 1) where
-    pub rows_none : out n (add_rows (between (i + 1) w y) xs (between i w t)) ≡ between i w t
-    rows_none = rw (between_none (i + 1) w y h)
-
--- ---- the whole: the first row, then the others
-pub multiplier_is : (w : ℕ) (x y : List ℤ) → 1 ≤ w → w ≤ length x → w ≤ length y
-    → multiplier (literals (take w x)) (literals (take w y)) ≡ (ands (w - 0) (literals (take w x)) (literal_at y 0) >>= λ row. add_rows (between 1 w y) (literals (take w x)) row)
-multiplier_is w x y h hx hy =
-    let l : length (literals (take w x)) ≡ w - 0 = length-map (take w x) unslot ∙ length-take-le w x hx ∙ omega arith in
-    ap (λ (ys : List Lit). multiplier (literals (take w x)) ys) (between_cons 0 w y h hy)
-    ∙ ap (λ (c : ℕ). ands c (literals (take w x)) (literal_at y 0) >>= λ row. add_rows (between 1 w y) (literals (take w x)) row) l
+-- no bit is left, or no literal
+pub rows_none : (bits xs total : List Lit) → (length bits ≡ 0) ⊎ (length total ≡ 0) → add_rows bits xs total ≡ ret total
+rows_none [] xs total h = refl
+rows_none (bit ∷ bits) xs [] h = refl
+rows_none (bit ∷ bits) xs (t ∷ total) (inl e) = absurd (omega arith)
+rows_none (bit ∷ bits) xs (t ∷ total) (inr e) = absurd (omega arith)

@@ -1,16 +1,19 @@
 -- The cut at 65,536 bytes changes nothing of the table that is read: its lines are decided by the first 4,353. Assumes nothing.
+use Rattle.std.specs.Prelude.{Ok, Err}
 use mathlib.Core.Path.{◌≡◌, refl, sym, ap, ◌∙◌}
 use mathlib.Core.Bool.{Bool, true, ◌&&◌}
 use mathlib.Core.List.{List, [], ◌∷◌}
-use Prim.Native.Nat.{ℕ, zero, suc, ◌+◌, ◌*◌, ◌-◌, ◌≤◌, ◌<◌}
+use Prim.Native.Nat.{ℕ, zero, suc, ◌+◌, ◌*◌, ◌-◌, ◌≤◌, ◌<◌, min}
 use native.Mathlib.Nat.{sub-zero}
+use native.Mathlib.Decide.{dec_lt}
 use native.Mathlib.Omega.{arith}
 use lib.Dec.{eqb, ltb}
-use lib.ListN.{take, drop}
-use lib.Seq.{get_or-take}
+use lib.ListN.{length, take, drop}
+use lib.Seq.{get_or-take, take_all}
 use Rattle.whole.specs.Tests.{if◌then◌otherwise◌}
 use Rattle.sheet.specs.declared.LinesFound.{LinesFound}
-use Rattle.sheet.specs.Acceptance.{Outcome, refused, accepted}
+use Rattle.sheet.specs.declared.Reason.TheVariants.{BadLine}
+use Rattle.sheet.specs.Acceptance.{Outcome, refused}
 use Rattle.sheet.specs.Calls.{◌>>=◌}
 use Rattle.sheet.specs.Texts.{nibble, begins_line, bytes_in, table_in, lines, lines_from, read_lines}
 use Rattle.sheet.specs.Programs.{input_of, sheet_in}
@@ -52,8 +55,8 @@ module _ (blank : Bool) (n : ℕ) where
   one_more_cut more (suc k) (b ∷ text) h d =
       let all = b ∷ text in
       let ends = blank && eqb b 10 in
-      ap (λ (u : Bool). if ends then lines n (17 * n + 1) true otherwise if u then lines_from more blank (n + 1) (drop 17 (take (suc k) all)) otherwise refused 20 n) (begins_cut 16 (suc k) all h)
-      ∙ ap (λ (o : Outcome LinesFound). if ends then lines n (17 * n + 1) true otherwise if begins_line 16 all then o otherwise refused 20 n) d
+      ap (λ (u : Bool). if ends then lines n (17 * n + 1) true otherwise if u then lines_from more blank (n + 1) (drop 17 (take (suc k) all)) otherwise refused BadLine n) (begins_cut 16 (suc k) all h)
+      ∙ ap (λ (o : Outcome LinesFound). if ends then lines n (17 * n + 1) true otherwise if begins_line 16 all then o otherwise refused BadLine n) d
 
 lines_cut : (more : ℕ) (blank : Bool) (n k : ℕ) (text : List ℕ) → 17 * more < k → lines_from more blank n (take k text) ≡ lines_from more blank n text
 lines_cut zero blank n k text h = no_more_cut blank n k text (omega arith)
@@ -81,16 +84,26 @@ module _ (blank : Bool) (text : List ℕ) where
   unfolding read_lines
   read_cut = lines_cut 256 blank 0 65536 text (omega arith)
 
-  pub same_table : (l : LinesFound) → read_lines blank text 2048 ≡ accepted l → table_in l.rows (input_of text) ≡ table_in l.rows text
+  pub same_table : (l : LinesFound) → read_lines blank text 2048 ≡ Ok l → table_in l.rows (input_of text) ≡ table_in l.rows text
   unfolding read_lines
   same_table l e = table_cut l.rows 65536 text (omega (arith, few_lines 256 blank 0 text l e))
 
-  pub found_cut : (l : LinesFound) → read_lines blank text 2048 ≡ accepted l → sheet_in (input_of text) l ≡ sheet_in text l
+  pub found_cut : (l : LinesFound) → read_lines blank text 2048 ≡ Ok l → sheet_in (input_of text) l ≡ sheet_in text l
   found_cut l e = ap sheet_of (same_table l e)
 
   pub sheet_cut : sheet_read blank (input_of text) ≡ sheet_read blank text
   sheet_cut = ap (λ (o : Outcome LinesFound). o >>= sheet_in (input_of text)) read_cut ∙ by (read_lines blank text 2048) refl
     where
       by : (o : Outcome LinesFound) → read_lines blank text 2048 ≡ o → (o >>= sheet_in (input_of text)) ≡ (o >>= sheet_in text)
-      by (refused n p) e = refl
-      by (accepted l) e = found_cut l e
+      by (Err refusal) e = refl
+      by (Ok l) e = found_cut l e
+
+-- as much of a text as there is up to 65,536 bytes
+pub cut_short : (n : ℕ) (text : List ℕ) → n ≡ min (length text) 65536 → take n text ≡ input_of text
+cut_short n text e = by (dec_lt (length text) 65536)
+  where
+    by : Dec (length text < 65536) → take n text ≡ input_of text
+    by (yes h) = take_all n text (omega (arith, e)) ∙ sym (take_all 65536 text (omega arith))
+    by (no h) =
+        let k : n ≡ 65536 = omega (arith, e) in
+        rw k

@@ -1,4 +1,5 @@
 -- What evaluating leaves of chosen values: in the last row's place the constraint's truth. Assumes nothing.
+use Rattle.std.specs.Prelude.{Ok}
 use mathlib.Core.Path.{◌≡◌, refl, sym, ◌∙◌, ap}
 use mathlib.Core.Bool.{false, not, false≢true}
 use mathlib.Core.List.{List, [], ◌∷◌, ◌++◌, map}
@@ -12,11 +13,9 @@ use Rattle.whole.specs.Bits.{bit}
 use Rattle.circuit.specs.Counting.{the_first}
 use Rattle.sheet.specs.declared.Fields.{Fields}
 use Rattle.sheet.specs.declared.Record.{Record}
-use Rattle.sheet.specs.declared.Answer.{Answer}
-use Rattle.sheet.specs.declared.Answer.TheVariants.{Done}
 use Rattle.sheet.specs.Values.{Value, boolean, fraction, truth_of, numerator, value_at, row_val, values_from, row_values, unknowns, each_in_bits, Chosen}
-use Rattle.sheet.specs.Acceptance.{Outcome, accepted, record_at, Sheet, accept}
-use Rattle.sheet.specs.Calls.{false_at, row_count, unknown_count, choosing, evaluating, left, constraint, said, done}
+use Rattle.sheet.specs.Acceptance.{record_at, Sheet, accept}
+use Rattle.sheet.specs.Calls.{false_at, row_count, unknown_count, choosing, evaluating, left, constraint, done}
 use Rattle.sheet.proofs.Accepted.{accepted_tells}
 use Rattle.sheet.proofs.Called.{first_false_lem}
 use Rattle.sheet.proofs.Widths.{Holds, hold_at}
@@ -25,10 +24,6 @@ use Rattle.promise.proofs.Choices.{first, after, within_all}
 use Rattle.promise.proofs.Counts.{counts_are_made}
 use Rattle.promise.proofs.Fitting.{table_fits}
 use Rattle.promise.proofs.Promise.{known}
-use Rattle.promise.proofs.Outcomes.{same_said}
-
-pub is_done : {answer : Answer} (o : Outcome Sheet) (sheet : Sheet) → o ≡ accepted sheet → said answer ≡ done o → answer ≡ Done
-is_done {answer} o sheet e says = same_said answer Done says (rw e)
 
 values_many : (rows : List Fields) (earlier : List Value) (vs : List ℤ) → length (values_from earlier rows vs) ≡ length earlier + length rows
 values_many [] earlier vs = omega arith
@@ -45,7 +40,7 @@ truth_numerator : (r : Record) (v : Value) → Holds r v → eqb r.sort 1 ≡ fa
 truth_numerator r (boolean b) h e = refl
 truth_numerator r (fraction n d) h e = absurd (false≢true (sym (rw h.sort at e)))
 
-module _ (table : List ℕ) (sheet : Sheet) (e : accept table ≡ accepted sheet) (values : List ℤ) (chosen : Chosen sheet.rows values) where
+module _ (table : List ℕ) (sheet : Sheet) (e : accept table ≡ Ok sheet) (values : List ℤ) (chosen : Chosen sheet.rows values) where
   pub last_numerator : numerator (value_at (row_values sheet.rows values) (length sheet.rows - 1)) ≡ pos (bit (constraint sheet values))
   unfolding constraint row_values
   last_numerator =
@@ -55,7 +50,7 @@ module _ (table : List ℕ) (sheet : Sheet) (e : accept table ≡ accepted sheet
       let h = table_fits sheet.rows [] [] tt the_first sheet.records k.total k.passed values (within_all sheet.rows values chosen.within) in
       truth_numerator (record_at sheet.records i) (value_at vs i) (hold_at sheet.records vs h i) k.ends
 
-  evaluation : (room : ℕ) → row_count sheet ≤ room → evaluating table values room ≡ accepted sheet
+  evaluation : (room : ℕ) → row_count sheet ≤ room → evaluating table values room ≡ Ok sheet
   unfolding evaluating choosing
   evaluation room h =
       let bs = each_in_bits (unknowns sheet.rows) values in
@@ -74,7 +69,7 @@ module _ (table : List ℕ) (sheet : Sheet) (e : accept table ≡ accepted sheet
       let long : length (map numerator vs) ≡ length sheet.rows = length-map vs numerator ∙ rows_many sheet.rows values in
       let place : rows_in table - 1 ≡ length sheet.rows - 1 = omega (arith, is.many) in
       let left_is : results₁ ≡ map numerator vs ++ drop (length (map numerator vs)) results₀ = rw o at h.results in (
-        is_done (evaluating table values (length results₀)) sheet o h.says,
+        h.says ∙ ap done o,
         ap (λ (l : List ℤ). get_or l (rows_in table - 1) (pos 0)) left_is
             ∙ get_or-append (map numerator vs) (drop (length (map numerator vs)) results₀) (pos 0) (rows_in table - 1) (omega (arith, is.many, is.some))
             ∙ ap (λ (n : ℕ). get_or (map numerator vs) n (pos 0)) place

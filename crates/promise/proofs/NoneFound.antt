@@ -1,4 +1,5 @@
 -- None is lost on the way through the two programs: each reads the table's lines as the table. Assumes nothing.
+use Rattle.std.specs.Prelude.{Ok}
 use mathlib.Core.Path.{◌≡◌, sym, ap, ◌∙◌}
 use mathlib.Core.Bool.{Bool, true, false}
 use mathlib.Core.List.{List, [], ◌∷◌, ◌++◌, map, append_assoc, append-nil}
@@ -12,7 +13,7 @@ use lib.Seq.{take_all, drop_at}
 use Rattle.whole.specs.Bits.{bit}
 use Rattle.circuit.specs.Literals.{Clause, Assignment, all_true}
 use Rattle.sheet.specs.Values.{row_values, Chosen}
-use Rattle.sheet.specs.Acceptance.{accepted, Sheet, accept}
+use Rattle.sheet.specs.Acceptance.{Sheet, accept}
 use Rattle.sheet.specs.Steps.{extension}
 use Rattle.sheet.specs.Calls.{model_of, constraint}
 use Rattle.sheet.specs.Texts.{ascii, Bytes, lines_of, dimacs, setting_lines, model_line, model, model_text, claim_in}
@@ -35,7 +36,7 @@ bits_are [] = tt
 bits_are (true ∷ s) = (omega arith, bits_are s)
 bits_are (false ∷ s) = (omega arith, bits_are s)
 
-module _ (table : List ℕ) (sheet : Sheet) (h : Bytes table) (e : accept table ≡ accepted sheet) (fits : sheet.counts.slots ≤ 16384) where
+module _ (table : List ℕ) (sheet : Sheet) (h : Bytes table) (e : accept table ≡ Ok sheet) (fits : sheet.counts.slots ≤ 16384) where
   abbrev n : ℕ
   n = rows_in table
 
@@ -49,7 +50,7 @@ module _ (table : List ℕ) (sheet : Sheet) (h : Bytes table) (e : accept table 
   few = omega (arith, is.bytes, is.few)
 
   sheet_is : (text rest : List ℕ) → text ≡ lines_of n table ++ rest → (next : ℕ) (ended : Bool)
-      → sheet_in text (record { rows = n; rest = next; ended = ended }) ≡ accepted sheet
+      → sheet_in text (record { rows = n; rest = next; ended = ended }) ≡ Ok sheet
   sheet_is text rest f next ended = rw (f, table_bytes_lem rest n table rows, e, le-ltb 16384 sheet.counts.slots fits)
 
   -- ---- the clauses
@@ -81,10 +82,10 @@ module _ (table : List ℕ) (sheet : Sheet) (h : Bytes table) (e : accept table 
     behind : drop (17 * n + 1) input ≡ model_text bytes
     behind = drop_at (lines_of n table ++ ascii "\n") (model_text bytes) (17 * n + 1) (length-append (lines_of n table) (ascii "\n") ∙ omega (arith, table_long n table rows))
 
-    claim_is : claim_in sheet.counts.variables (model_text bytes) ≡ accepted (model bytes)
+    claim_is : claim_in sheet.counts.variables (model_text bytes) ≡ Ok (model bytes)
     claim_is = ap (λ (k : ℕ). claim_in k (model_text bytes)) (sym (length-map s bit ∙ promised.one.sized)) ∙ printed_accepted bytes (bits_are s)
 
-    settled_is : settled settings_told sheet (model bytes) ≡ accepted settings
+    settled_is : settled settings_told sheet (model bytes) ≡ Ok settings
     settled_is = rw (bits_back s, extension_passes table sheet e values chosen holds, promised.rows s promised.one)
 
     -- so few variables that the model's line is read to its end

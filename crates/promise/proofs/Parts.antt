@@ -1,4 +1,5 @@
 -- Each row's part of the slots, by its record's first slot and number of slots, is what the row's own steps write. Assumes nothing.
+use Rattle.std.specs.Prelude.{Ok}
 use mathlib.Core.Path.{◌≡◌, refl, sym, ◌∙◌, ap, subst}
 use mathlib.Core.List.{List, [], ◌∷◌, ◌++◌, append_assoc}
 use Prim.Native.Nat.{ℕ, zero, suc, ◌+◌, ◌≤◌, ◌<◌}
@@ -15,7 +16,7 @@ use Rattle.circuit.proofs.Costs.{State}
 use Rattle.circuit.proofs.Lengths.{slots_of_append, clauses_from-append, gates_bind, out_bind, cost_sound}
 use Rattle.sheet.specs.declared.Fields.{Fields}
 use Rattle.sheet.specs.declared.Record.{Record}
-use Rattle.sheet.specs.Acceptance.{missing, record_at, accepted, Sheet, accept}
+use Rattle.sheet.specs.Acceptance.{missing, record_at, Sheet, accept}
 use Rattle.sheet.specs.Steps.{Cell, row_steps, steps_from, steps, cells, clauses_but_last, last_clause, clauses, slots_for}
 use Rattle.sheet.specs.Calls.{part}
 use Rattle.sheet.proofs.Accepted.{Passed, Behind, passed_behind, accepted_tells}
@@ -100,7 +101,7 @@ module _ (before : List Fields) (f : Fields) (behind : List Fields) (records : L
   record_is : record_at records (length before) ≡ b.own
   record_is = rw (b.front, ← b.place) (get_or-append_seam b.earlier b.own b.rest missing)
 
-  part_is : part (accepted (record_at records (length before))) (slots_for (before ++ f ∷ behind)) ≡ row_slots before f
+  part_is : part (Ok (record_at records (length before))) (slots_for (before ++ f ∷ behind)) ≡ row_slots before f
   unfolding part
   part_is =
       let first = slots_of (clauses_from 0 (gates 0 (steps before))) in
@@ -136,7 +137,7 @@ module _ {A : Type 0} where
       record { before = x ∷ a.before; here = a.here; behind = a.behind; split = ap (λ (m : List A). x ∷ m) a.split; place = ap suc a.place }
 
 -- a row's part ends where the slots end, or before
-pub part_inside : (table : List ℕ) (sheet : Sheet) → accept table ≡ accepted sheet → (i : ℕ) → i < length sheet.rows
+pub part_inside : (table : List ℕ) (sheet : Sheet) → accept table ≡ Ok sheet → (i : ℕ) → i < length sheet.rows
     → (record_at sheet.records i).first + (record_at sheet.records i).slots ≤ length (slots_for sheet.rows)
 part_inside table sheet e i h = by (at sheet.rows i h)
   where

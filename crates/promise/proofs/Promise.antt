@@ -1,4 +1,5 @@
 -- Demand 3, for every accepted table and all chosen values. Assumes nothing.
+use Rattle.std.specs.Prelude.{Ok}
 use mathlib.Core.Path.{◌≡◌, sym, ◌∙◌, ap, subst}
 use mathlib.Core.Bool.{true, false, or-false, false≢true}
 use mathlib.Core.List.{List, [], ◌∷◌, ◌++◌}
@@ -16,7 +17,7 @@ use Rattle.circuit.proofs.Assignments.{holds_of, of_holds, frees, unique, run_le
 use Rattle.sheet.specs.declared.Fields.{Fields}
 use Rattle.sheet.specs.declared.Record.{Record}
 use Rattle.sheet.specs.Values.{Value, boolean, fraction, truth_of, value_at, row_values, Chosen}
-use Rattle.sheet.specs.Acceptance.{record_at, accepted, Sheet, accept}
+use Rattle.sheet.specs.Acceptance.{record_at, Sheet, accept}
 use Rattle.sheet.specs.Steps.{Cell, cell_at, lit, steps, cells, clauses_but_last, last_clause, settings, unknown_bits, extension}
 use Rattle.sheet.specs.Calls.{constraint}
 use Rattle.sheet.proofs.Accepted.{Passed, passed_many, accepted_tells}
@@ -45,7 +46,7 @@ pub record Known (sheet : Sheet) : Type 0 where
   pub variables : length (gates 0 (steps sheet.rows)) ≡ sheet.counts.variables
   pub ends : eqb (record_at sheet.records (length sheet.rows - 1)).sort 1 ≡ false
 
-pub known : (table : List ℕ) (sheet : Sheet) → accept table ≡ accepted sheet → Known sheet
+pub known : (table : List ℕ) (sheet : Sheet) → accept table ≡ Ok sheet → Known sheet
 known table sheet e =
     let is = accepted_tells table sheet e in
     let whole = whole_table sheet is.total is.passed in

@@ -1,5 +1,5 @@
 -- Demand 3, the two sentences for the assessor, and the counts: what is promised of an accepted table. Assumes nothing.
-use Rattle.std.specs.Prelude.{◌≡◌, true, false, List, [], ◌∷◌, ◌++◌, ℕ, ◌+◌, ◌*◌, ◌-◌, ◌/◌, ◌≤◌, ◌<◌, length, ℤ, nat_abs}
+use Rattle.std.specs.Prelude.{Ok, ◌≡◌, true, false, List, [], ◌∷◌, ◌++◌, ℕ, ◌+◌, ◌*◌, ◌-◌, ◌/◌, ◌≤◌, ◌<◌, length, ℤ, nat_abs}
 use Rattle.whole.specs.Bits.{Fits}
 use Rattle.circuit.specs.Literals.{Lit, slot, slots_of, Assignment, clause_true, all_true}
 use Rattle.circuit.specs.Circuits.{Circuit, ret, gates, out, clauses_from}
@@ -9,7 +9,7 @@ use Rattle.sheet.specs.declared.Kind.TheVariants.{BooleanConstant, BooleanUnknow
 use Rattle.sheet.specs.declared.Fields.{Fields}
 use Rattle.sheet.specs.declared.Record.{Record}
 use Rattle.sheet.specs.Values.{Value, boolean, fraction, value_at, shared, over, row_values, unknowns, Chosen}
-use Rattle.sheet.specs.Acceptance.{meeting, width_over, record_at, accepted, Sheet, accept}
+use Rattle.sheet.specs.Acceptance.{meeting, width_over, record_at, Sheet, accept}
 use Rattle.sheet.specs.Steps.{Cell, brought, cell_at, row_steps, steps, cells, clauses_but_last, last_clause, clauses, slots_for, map_for, read_rows, settings, extension}
 use Rattle.sheet.specs.Calls.{unknown_count, writing, decoding, model_of, settings_of, constraint, part}
 
@@ -69,28 +69,28 @@ pub record Promise (sheet : Sheet) (values : List ℤ) : Type 0 where
   pub last : (s : Assignment) → Carries sheet values s → clause_true s (last_clause sheet.rows) ≡ constraint sheet values
 
 abbrev pub DemandThree : Type 0
-DemandThree = (table : List ℕ) (sheet : Sheet) → accept table ≡ accepted sheet → (values : List ℤ) → Chosen sheet.rows values → Promise sheet values
+DemandThree = (table : List ℕ) (sheet : Sheet) → accept table ≡ Ok sheet → (values : List ℤ) → Chosen sheet.rows values → Promise sheet values
 
 -- "when the tool prints timings, what shows that they meet the sheet?" If decoding accepts a model, the values that it gives are
 -- chosen values, each within its declared bits, and the constraint is true of them
 abbrev pub SettingsMeetTheSheet : Type 0
 SettingsMeetTheSheet =
     (table : List ℕ) (record_room map_room slot_room : ℕ) (model : List ℕ) (value_room : ℕ) (sheet : Sheet)
-    → decoding table record_room map_room slot_room model value_room ≡ accepted sheet
+    → decoding table record_room map_room slot_room model value_room ≡ Ok sheet
     → Chosen sheet.rows (settings_of model sheet) × (constraint sheet (settings_of model sheet) ≡ true)
 
 -- "when it finds none at those widths, what shows that none was lost on the way to the solver?" If chosen values make the
 -- constraint true, decoding accepts the model that extending gives, and gives these values
 abbrev pub NoneLost : Type 0
 NoneLost =
-    (table : List ℕ) (record_room map_room slot_room value_room : ℕ) (sheet : Sheet) → writing table record_room map_room slot_room ≡ accepted sheet → unknown_count sheet ≤ value_room
+    (table : List ℕ) (record_room map_room slot_room value_room : ℕ) (sheet : Sheet) → writing table record_room map_room slot_room ≡ Ok sheet → unknown_count sheet ≤ value_room
     → (values : List ℤ) → Chosen sheet.rows values → constraint sheet values ≡ true
-    → (decoding table record_room map_room slot_room (model_of values sheet) value_room ≡ accepted sheet) × (settings_of (model_of values sheet) sheet ≡ values)
+    → (decoding table record_room map_room slot_room (model_of values sheet) value_room ≡ Ok sheet) × (settings_of (model_of values sheet) sheet ≡ values)
 
 -- so where no assignment makes every clause true, no chosen values make the constraint true
 abbrev pub NoneExists : Type 0
 NoneExists =
-    (table : List ℕ) (sheet : Sheet) → accept table ≡ accepted sheet
+    (table : List ℕ) (sheet : Sheet) → accept table ≡ Ok sheet
     → ((s : Assignment) → length s ≡ sheet.counts.variables → all_true s (clauses sheet.rows) ≡ false)
     → (values : List ℤ) → Chosen sheet.rows values → constraint sheet values ≡ false
 
@@ -133,11 +133,11 @@ row_slots before f =
 -- each row's part of the slots, by its record, is the row's own
 abbrev pub PartsAreRows : Type 0
 PartsAreRows =
-    (table : List ℕ) (sheet : Sheet) → accept table ≡ accepted sheet → (before : List Fields) (f : Fields) (after : List Fields) → sheet.rows ≡ before ++ f ∷ after
-    → part (accepted (record_at sheet.records (length before))) (slots_for sheet.rows) ≡ row_slots before f
+    (table : List ℕ) (sheet : Sheet) → accept table ≡ Ok sheet → (before : List Fields) (f : Fields) (after : List Fields) → sheet.rows ≡ before ++ f ∷ after
+    → part (Ok (record_at sheet.records (length before))) (slots_for sheet.rows) ≡ row_slots before f
 
 abbrev pub CountsAreMade : Type 0
-CountsAreMade = (table : List ℕ) (sheet : Sheet) → accept table ≡ accepted sheet → Counted sheet
+CountsAreMade = (table : List ℕ) (sheet : Sheet) → accept table ≡ Ok sheet → Counted sheet
 
 -- each literal is one of the variables 1 to n, or its negation
 abbrev pub Among : (n : ℕ) → List Lit → Type 0

@@ -1,55 +1,26 @@
 // The clauses of one row, as a part of the slots that the caller has: only read, never copied.
 #![tactic(auto)]
 
-ghost use Rattle.std.specs.Prelude.{◌≡◌, ◌+◌, ◌≤◌};
+ghost use Rattle.std.specs.Prelude.{◌≡◌, ◌+◌, ◌≤◌, IfOk};
 ghost use Rattle.sheet.specs.Calls.{row_clauses};
 ghost use Rattle.sheet.specs.Relations.{GivesRow};
-ghost use Rattle.row_clauses.specs.Finding.{as_found};
 
-// Where a row's slots stand and how many they are, or a refusal and no slots.
-#[derive(Clone, Copy)]
-pub struct Found {
-    pub number: u32,
-    pub place: usize,
-    pub first: usize,
-    pub slots: usize,
-}
+use sheet::{Reason, Record, Refusal};
 
-fn refused(number: u32, place: usize) -> Found
-    ensures { result ≡ record { number = number; place = place; first = 0; slots = 0 } }
+// The record of a row whose slots are to be among so many: refusals 1 to 10, 13 and 22.
+pub fn find(table: &[u8], room: usize, row: u32) -> Result<Record, Refusal>
+    ensures answer { result ≡ row_clauses table.now room row }
+    ensures within { IfOk result (λ r. r.first + r.slots ≤ room) }
 {
-    Found {
-        number,
-        place,
-        first: 0,
-        slots: 0,
-    }
-}
-
-// Refusals 1 to 10, 13 and 22, for so many slots.
-pub fn find(table: &[u8], room: usize, row: u32) -> Found
-    ensures answer { result ≡ as_found (row_clauses table.now room row) }
-    ensures within { result.first + result.slots ≤ room }
-{
-    let s = table::survey(table);
-    if s.number != 0 {
-        return refused(s.number, s.place);
-    }
-    let needed = s.counts.slots as usize;
+    let sheet = table::survey(table)?;
+    let needed = sheet.counts().slots as usize;
     if room < needed {
-        return refused(13, needed);
+        return Err(Reason::FewSlots.at(needed));
     }
-    let i = row as usize;
-    if s.rows <= i {
-        return refused(22, s.rows);
-    }
-    let records = s.records;
-    let own = records[i];
-    Found {
-        number: 0,
-        place: 0,
-        first: own.first as usize,
-        slots: own.slots as usize,
+    let records = sheet.records();
+    match records.get(row as usize) {
+        Some(own) => Ok(*own),
+        None => Err(Reason::NoSuchRow.at(records.len())),
     }
 }
 
@@ -64,10 +35,17 @@ pub fn row_clauses<'a>(
 ) -> &'a [i32]
     ensures { GivesRow table.now slots.now row result.now number.new place.new }
 {
-    let f = find(table, slots.len(), row);
-    *number = f.number;
-    *place = f.place;
-    let first = f.first;
-    let end = first + f.slots;
-    &slots[first..end]
+    match find(table, slots.len(), row) {
+        Ok(own) => {
+            *number = 0;
+            *place = 0;
+            let first = own.first as usize;
+            &slots[first..first + own.slots as usize]
+        }
+        Err(refusal) => {
+            *number = refusal.reason.number();
+            *place = refusal.place;
+            &slots[..0]
+        }
+    }
 }

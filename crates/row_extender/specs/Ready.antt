@@ -4,6 +4,7 @@ use Rattle.sheet.specs.declared.Kind.{Kind}
 use Rattle.sheet.specs.declared.Kind.TheVariants.{BooleanConstant, BooleanUnknown, NaturalUnknown, IntegerUnknown, NumberConstant}
 use Rattle.sheet.specs.declared.Kind.TheVariants.{Not, And, Or, Implies, Iff, Sum, Difference, Product, Choice, Greater, Equal}
 use Rattle.sheet.specs.declared.Fields.{Fields}
+use Rattle.sheet.specs.declared.References.{References}
 use Rattle.sheet.specs.Values.{Value, boolean}
 use Rattle.trace.specs.Traces.{trace_by}
 use Rattle.number_extender.specs.declared.Operand.{Operand}
@@ -18,26 +19,26 @@ abbrev pub value_of : Operand → Value
 value_of o = of_sort o.record.sort o
 
 -- where the rows x, y and z are these operands
-unfoldable pub trace_over : Fields → (a b c : Operand) → (v : ℤ) → List Bool
-trace_over f a b c v = trace_by f.kind f.p a.record b.record c.record (value_of a) (value_of b) (value_of c) v
+unfoldable pub trace_over : Fields → References Operand → (v : ℤ) → List Bool
+trace_over f of v = trace_by f.kind f.p of.x.record of.y.record of.z.record (value_of of.x) (value_of of.y) (value_of of.z) v
 
 abbrev pub IsBoolean : Operand → Type 0
 IsBoolean o = o.record.sort ≡ 0
 
-abbrev pub Ready : Kind → (a b c : Operand) → Type 0
-Ready BooleanConstant a b c = Unit {0}
-Ready BooleanUnknown a b c = Unit {0}
-Ready NaturalUnknown a b c = Unit {0}
-Ready IntegerUnknown a b c = Unit {0}
-Ready NumberConstant a b c = Unit {0}
-Ready Not a b c = Unit {0}
-Ready And a b c = IsBoolean a × IsBoolean b
-Ready Or a b c = IsBoolean a × IsBoolean b
-Ready Implies a b c = IsBoolean a × IsBoolean b
-Ready Iff a b c = IsBoolean a × IsBoolean b
-Ready Sum a b c = Meeting a b
-Ready Difference a b c = Meeting a b
-Ready Product a b c = IsNumber a × IsNumber b
-Ready Choice a b c = IsBoolean a × Meeting b c
-Ready Greater a b c = Meeting a b
-Ready Equal a b c = Meeting a b
+abbrev pub Ready : Kind → References Operand → Type 0
+Ready BooleanConstant of = Unit {0}
+Ready BooleanUnknown of = Unit {0}
+Ready NaturalUnknown of = Unit {0}
+Ready IntegerUnknown of = Unit {0}
+Ready NumberConstant of = Unit {0}
+Ready Not of = Unit {0}
+Ready And of = IsBoolean of.x × IsBoolean of.y
+Ready Or of = IsBoolean of.x × IsBoolean of.y
+Ready Implies of = IsBoolean of.x × IsBoolean of.y
+Ready Iff of = IsBoolean of.x × IsBoolean of.y
+Ready Sum of = Meeting of.x of.y
+Ready Difference of = Meeting of.x of.y
+Ready Product of = IsNumber of.x × IsNumber of.y
+Ready Choice of = IsBoolean of.x × Meeting of.y of.z
+Ready Greater of = Meeting of.x of.y
+Ready Equal of = Meeting of.x of.y

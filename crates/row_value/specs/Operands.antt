@@ -7,6 +7,7 @@ use Rattle.sheet.specs.declared.Kind.{Kind}
 use Rattle.sheet.specs.declared.Kind.TheVariants.{BooleanConstant, BooleanUnknown, NaturalUnknown, IntegerUnknown, NumberConstant}
 use Rattle.sheet.specs.declared.Kind.TheVariants.{Not, And, Or, Implies, Iff, Sum, Difference, Product, Choice, Greater, Equal}
 use Rattle.sheet.specs.declared.Fields.{Fields}
+use Rattle.sheet.specs.declared.References.{References}
 use Rattle.sheet.specs.Rows.{uses}
 use Rattle.sheet.specs.Values.{Value, boolean, fraction, shared, over, value_by}
 use Rattle.sheet.specs.Acceptance.{sorts_in}
@@ -28,11 +29,11 @@ abbrev pub sort_at : Kind → (n : ℕ) → ℕ
 sort_at k n = get_or (sorts_in (uses k)) n 0
 
 -- the paper's value of a row, where the rows x, y and z are these operands
-abbrev pub value_over : (a b c : Operand) → Kind → (p x y z : ℕ) → (v : ℤ) → Value
-value_over a b c k p x y z v = value_by k p x y z (of_sort (sort_at k 0) a) (of_sort (sort_at k 1) b) (of_sort (sort_at k 2) c) v
+abbrev pub value_over : References Operand → Kind → (p x y z : ℕ) → (v : ℤ) → Value
+value_over of k p x y z v = value_by k p x y z (of_sort (sort_at k 0) of.x) (of_sort (sort_at k 1) of.y) (of_sort (sort_at k 2) of.z) v
 
-unfoldable pub row_over : (a b c : Operand) → Fields → (v : ℤ) → Value
-row_over a b c f v = value_over a b c f.kind f.p f.x f.y f.z v
+unfoldable pub row_over : References Operand → Fields → (v : ℤ) → Value
+row_over of f v = value_over of f.kind f.p f.x f.y f.z v
 
 -- a number brought to the least common multiple of its denominator and another's
 abbrev pub common : Operand → Operand → ℕ
@@ -49,20 +50,20 @@ pub record Meeting (a b : Operand) : Type 0 where
   pub right_fits : Fits 48 (brought (common a b) b)
 
 -- what acceptance tells of the operands of a row
-abbrev pub Ready : Kind → (a b c : Operand) → Type 0
-Ready BooleanConstant a b c = Unit {0}
-Ready BooleanUnknown a b c = Unit {0}
-Ready NaturalUnknown a b c = Unit {0}
-Ready IntegerUnknown a b c = Unit {0}
-Ready NumberConstant a b c = Unit {0}
-Ready Not a b c = Unit {0}
-Ready And a b c = Unit {0}
-Ready Or a b c = Unit {0}
-Ready Implies a b c = Unit {0}
-Ready Iff a b c = Unit {0}
-Ready Sum a b c = Meeting a b
-Ready Difference a b c = Meeting a b
-Ready Product a b c = Fits 48 (a.numerator *ℤ b.numerator)
-Ready Choice a b c = Meeting b c
-Ready Greater a b c = Meeting a b
-Ready Equal a b c = Meeting a b
+abbrev pub Ready : Kind → References Operand → Type 0
+Ready BooleanConstant of = Unit {0}
+Ready BooleanUnknown of = Unit {0}
+Ready NaturalUnknown of = Unit {0}
+Ready IntegerUnknown of = Unit {0}
+Ready NumberConstant of = Unit {0}
+Ready Not of = Unit {0}
+Ready And of = Unit {0}
+Ready Or of = Unit {0}
+Ready Implies of = Unit {0}
+Ready Iff of = Unit {0}
+Ready Sum of = Meeting of.x of.y
+Ready Difference of = Meeting of.x of.y
+Ready Product of = Fits 48 (of.x.numerator *ℤ of.y.numerator)
+Ready Choice of = Meeting of.y of.z
+Ready Greater of = Meeting of.x of.y
+Ready Equal of = Meeting of.x of.y

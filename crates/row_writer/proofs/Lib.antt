@@ -1,2 +1,2 @@
--- What the limits of a row tell. Assumes nothing.
+-- What the room for an unknown tells. Assumes nothing.
 pub mod Limits

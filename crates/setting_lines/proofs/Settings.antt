@@ -1,4 +1,5 @@
 -- The pages of an accepted table's settings, one after the other, are the paper's lines. Assumes nothing.
+use Rattle.std.specs.Prelude.{Ok, Err}
 use mathlib.Core.Path.{◌≡◌, refl, sym, ap, ◌∙◌}
 use mathlib.Core.Bool.{Bool, true, false, false≢true}
 use mathlib.Core.List.{List, [], ◌∷◌, ◌++◌, append_assoc, append-nil}
@@ -12,12 +13,10 @@ use Rattle.circuit.specs.Counting.{◌⊕◌}
 use Rattle.sheet.specs.declared.Kind.{Kind}
 use Rattle.sheet.specs.declared.Kind.TheVariants.{BooleanConstant, BooleanUnknown, NaturalUnknown, IntegerUnknown, NumberConstant, Not, And, Or, Implies, Iff, Sum, Difference, Product, Choice, Greater, Equal}
 use Rattle.sheet.specs.declared.Fields.{Fields}
-use Rattle.sheet.specs.declared.Reading.{Reading}
-use Rattle.sheet.specs.declared.Reading.TheVariants.{Read, Refused}
 use Rattle.sheet.specs.declared.Record.{Record}
-use Rattle.sheet.specs.Rows.{uses, is_unknown, read_row, and_rows, rows_of}
+use Rattle.sheet.specs.Rows.{Reading, uses, is_unknown, read_row, and_rows, rows_of}
 use Rattle.sheet.specs.Values.{Value, numerator, denominator, row_val}
-use Rattle.sheet.specs.Acceptance.{record_by, plan_by, Sheet, accepted, accept}
+use Rattle.sheet.specs.Acceptance.{record_by, plan_by, Sheet, accept}
 use Rattle.sheet.specs.Steps.{Cell, cells, read_as, read_each, read_rows, of_unknowns, settings}
 use Rattle.sheet.specs.Texts.{setting_lines}
 use Rattle.sheet.proofs.Accepted.{Passed, accepted_tells}
@@ -88,7 +87,7 @@ module _ (s : Assignment) where
       Rest = (rs : List Record) (cs : List Cell) → length rest ≡ n → AllOver rest rs → length cs ≡ length rs
           → joined (setting_pieces n (i + 1) (drop 8 bytes) (of_unknowns rest (read_each s rs cs))) ≡ setting_lines (i + 1) rest (read_each s rs cs)
 
-      one : (b : Bool) (f : Fields) (v : Value) (vs : List Value) → is_unknown (uses f.kind) ≡ b → read_row (take 8 bytes) ≡ Read f
+      one : (b : Bool) (f : Fields) (v : Value) (vs : List Value) → is_unknown (uses f.kind) ≡ b → read_row (take 8 bytes) ≡ Ok f
           → (is_unknown (uses f.kind) ≡ true → denominator v ≡ denominator (row_val [] f (numerator v)))
           → joined (setting_pieces n (i + 1) (drop 8 bytes) (of_unknowns rest vs)) ≡ setting_lines (i + 1) rest vs
           → joined (setting_pieces (suc n) i bytes (of_unknowns (f ∷ rest) (v ∷ vs))) ≡ setting_lines i (f ∷ rest) (v ∷ vs)
@@ -98,10 +97,10 @@ module _ (s : Assignment) where
       step : (reading : Reading) → read_row (take 8 bytes) ≡ reading → (rs : List Record) (cs : List Cell) → length (and_rows reading rest) ≡ suc n → AllOver (and_rows reading rest) rs
           → length cs ≡ length rs → Rest
           → joined (setting_pieces (suc n) i bytes (of_unknowns (and_rows reading rest) (read_each s rs cs))) ≡ setting_lines i (and_rows reading rest) (read_each s rs cs)
-      step (Refused m) q rs cs many h l k = absurd (omega (arith, rows_at_most n (drop 8 bytes)))
-      step (Read f) q [] cs many h l k = absurd h
-      step (Read f) q (r ∷ rs) [] many h l k = absurd (omega arith)
-      step (Read f) q (r ∷ rs) (c ∷ cs) many h l k =
+      step (Err m) q rs cs many h l k = absurd (omega (arith, rows_at_most n (drop 8 bytes)))
+      step (Ok f) q [] cs many h l k = absurd h
+      step (Ok f) q (r ∷ rs) [] many h l k = absurd (omega arith)
+      step (Ok f) q (r ∷ rs) (c ∷ cs) many h l k =
           one (is_unknown (uses f.kind)) f (read_as s r c.literals) (read_each s rs cs) refl q (λ u. h.0 u c.literals (numerator (read_as s r c.literals))) (k rs cs (omega arith) h.1 (omega arith))
 
 -- ---- a whole table
@@ -112,7 +111,7 @@ over_many s [] (r ∷ rs) h = absurd h
 over_many s (f ∷ rows) [] h = absurd h
 over_many s (f ∷ rows) (r ∷ rs) h = ap suc (over_many s rows rs h.1)
 
-pub settings_joined : (table : List ℕ) (sheet : Sheet) → accept table ≡ accepted sheet → (s : Assignment)
+pub settings_joined : (table : List ℕ) (sheet : Sheet) → accept table ≡ Ok sheet → (s : Assignment)
     → joined (table_pieces table (settings sheet s)) ≡ setting_lines 0 sheet.rows (read_rows sheet s)
 unfolding settings read_rows
 settings_joined table sheet e s =

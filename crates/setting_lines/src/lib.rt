@@ -7,7 +7,7 @@ ghost use Rattle.print.specs.Pages.{page_from, paged};
 ghost use Rattle.setting_lines.specs.Settings.{setting_line, table_pieces, unknowns_in};
 
 use print::Page;
-use sheet::{Kind, Reading};
+use sheet::Kind;
 
 // A row's line from place `at` on: row, numerator, denominator.
 pub fn put_setting_line(
@@ -20,21 +20,20 @@ pub fn put_setting_line(
     requires { at + 64 ≤ length out.old }
     ensures { Put (setting_line i numerator denominator) at out.old out.new result }
 {
-    let first = print::put_number(out, at, i, 32);
-    let second = print::put_signed(out, first, numerator, 32);
-    print::put_number(out, second, denominator, 10)
+    let first = print::put_number(out, at, i, b' ');
+    let second = print::put_signed(out, first, numerator, b' ');
+    print::put_number(out, second, denominator, b'\n')
 }
 
 // How many of a table's first rows are unknowns.
+#[tactic(auto, using(crate::proofs::Rows::unknowns_none, crate::proofs::Rows::unknowns_more, crate::proofs::Rows::unknowns_few, crate::proofs::Rows::truth_bit))]
 fn unknowns_before(table: &[u8], rows: usize) -> usize
     requires { 8 * rows ≤ length table.now }
     ensures { result ≡ unknowns_in rows table.now }
 {
     let mut n = 0;
-    let mut i = 0;
-    while i < rows {
-        n += unknown::asked_at(table, i);
-        i += 1;
+    for row in 0..rows {
+        n += usize::from(unknown::is_unknown_at(table, row));
     }
     n
 }
@@ -54,14 +53,13 @@ fn put_setting(
     requires used_is { used ≡ unknowns_in i table.now }
     ensures { Put (get_or (table_pieces table.now numerators.now) i []) at out.old out.new result }
 {
-    let Reading::Read(f) = row::read_at(table, i) else {
+    let Ok(f) = row::read_at(table, i) else {
         return at;
     };
     let v = unknown::value_at(numerators, used);
     let row = i as u64;
-    let z = f.z as u64;
-    let kind = f.kind;
-    match kind {
+    let z = u64::from(f.z);
+    match f.kind {
         Kind::BooleanUnknown => put_setting_line(out, at, row, v, 1),
         Kind::NaturalUnknown | Kind::IntegerUnknown => put_setting_line(out, at, row, v, z),
         _ => at,
@@ -74,22 +72,17 @@ pub fn settings_page(table: &[u8], numerators: &[i64], from: usize, out: &mut [u
     ensures out { out.new ≡ paged from (table_pieces table.now numerators.now) out.old }
 {
     let rows = table.len() / 8;
-    if from >= rows {
-        return Page {
-            next: from,
-            size: 0,
-        };
-    }
-    let mut used = unknowns_before(table, from);
-    let mut next = from;
+    let mut used = unknowns_before(table, from.min(rows));
     let mut size = 0;
-    while next < rows {
-        if out.len() - size < 64 {
-            return Page { next, size };
+    for row in from..rows {
+        if out.len() - size < print::PIECE {
+            return Page { next: row, size };
         }
-        size = put_setting(out, size, table, numerators, next, used);
-        used += unknown::asked_at(table, next);
-        next += 1;
+        size = put_setting(out, size, table, numerators, row, used);
+        used += usize::from(unknown::is_unknown_at(table, row));
     }
-    Page { next, size }
+    Page {
+        next: from.max(rows),
+        size,
+    }
 }

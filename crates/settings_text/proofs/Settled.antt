@@ -1,36 +1,35 @@
 -- What decoding a model that was told comes to: the line of refusal 19, the settings' lines, or values that can be evaluated. Assumes nothing.
+use Rattle.std.specs.Prelude.{Ok, Err}
 use mathlib.Core.Path.{◌≡◌, refl, sym, ap, ◌∙◌}
 use mathlib.Core.Bool.{Bool, true, false}
 use mathlib.Core.List.{List, [], ◌∷◌}
-use Prim.Native.Nat.{ℕ, suc, ◌+◌, ◌*◌, ◌/◌, ◌≤◌, ◌<◌}
+use Prim.Native.Nat.{ℕ, suc, ◌*◌, ◌/◌, ◌≤◌, ◌<◌}
 use native.Mathlib.Omega.{arith}
 use borrow.Author.Tests.{eq-eqb, le-ltb}
-use lib.Dec.{ltb}
-use lib.IntN.{ℤ}
-use lib.ListN.{length, get_or, take, drop, length-append}
+use lib.IntN.{ℤ, pos}
+use lib.ListN.{length, replicate, get_or, take, drop, length-append, length-replicate}
 use lib.Seq.{take_at}
 use Rattle.whole.specs.Tests.{if◌then◌otherwise◌}
 use Rattle.sheet.specs.declared.Fields.{Fields}
-use Rattle.sheet.specs.Rows.{uses, is_unknown, rows_of}
+use Rattle.sheet.specs.declared.Reason.TheVariants.{NotABit, FalseClause}
+use Rattle.sheet.specs.declared.Refusal.{Refusal}
+use Rattle.sheet.specs.Rows.{uses, is_unknown}
 use Rattle.sheet.specs.Values.{row_values, unknowns, Chosen}
-use Rattle.sheet.specs.Acceptance.{Outcome, refused, accepted, Sheet, accept}
+use Rattle.sheet.specs.Acceptance.{refusal_number, Outcome, refused, Sheet, accept}
 use Rattle.sheet.specs.Steps.{clauses, settings}
-use Rattle.sheet.specs.Calls.{◌>>◌, refuse◌counting◌unless◌, false_at, unknown_count, assigned, decodable, decoding, left, settings_of}
+use Rattle.sheet.specs.Calls.{◌>>◌, refuse◌counting◌unless◌, unknown_count, assigned, decodable, decoding, left, settings_of}
 use Rattle.sheet.specs.Texts.{refused_line, value_lines}
 use Rattle.sheet.specs.Programs.{printed}
-use Rattle.sheet.proofs.Accepted.{accepted_tells, passed_many}
-use Rattle.sheet.proofs.Called.{first_false_lem}
+use Rattle.sheet.proofs.Accepted.{accepted_tells}
+use Rattle.sheet.proofs.Called.{refused_not, same_accepted, then_accepts, first_false_lem}
 use Rattle.promise.proofs.Assessor.{settings_meet_the_sheet}
 use Rattle.promise.proofs.Counts.{counts_are_made}
-use Rattle.table.specs.declared.answer.Survey.{Survey}
-use Rattle.table.specs.Surveys.{as_survey}
-use Rattle.table.proofs.Answers.{left_accepted}
-use Rattle.table.proofs.Rowwise.{known, all_read, few_rows}
-use Rattle.evaluate.specs.Evaluable.{Evaluable}
+use Rattle.table.specs.Accepted.{Accepted}
+use Rattle.table.proofs.Buffers.{left_accepted}
+use Rattle.table.proofs.Rowwise.{few_rows}
 use Rattle.program.proofs.Rooms.{writing_sheet}
 use Rattle.assign.specs.Model.{are_bits}
 use Rattle.assign.specs.Clauses.{truths}
-use Rattle.decode.specs.Decoded.{as_decoded}
 use Rattle.print.specs.Pages.{joined}
 use Rattle.setting_lines.specs.Settings.{table_pieces}
 use Rattle.setting_lines.proofs.Settings.{settings_joined}
@@ -53,21 +52,41 @@ short_pieces [] h = omega arith
 short_pieces (piece ∷ pieces) h =
     rw (length-append piece (joined pieces)) (omega (arith, h 0 (omega arith), short_pieces pieces (λ k q. h (suc k) (omega arith))))
 
-module _ (all : Bool) (table bytes : List ℕ) (t : Told table bytes) (map₀ slots₀ values₀ : List ℤ) (m : length map₀ ≡ 12288) (l : length slots₀ ≡ 16384) (v : length values₀ ≡ 256) where
+then_refused : {A B : Type 0} (o : Outcome A) (b : B) {refusal : Refusal} → (o >> Ok b) ≡ Err refusal → o ≡ Err refusal
+then_refused (Err refusal) b e = cc
+then_refused (Ok a) b e = refused_not (sym e)
+
+-- map, slots and values as they are lent
+abbrev pub map₀ : List ℤ
+map₀ = replicate 12288 (pos 0)
+
+abbrev pub slots₀ : List ℤ
+slots₀ = replicate 16384 (pos 0)
+
+abbrev pub values₀ : List ℤ
+values₀ = replicate 256 (pos 0)
+
+map_long : length map₀ ≡ 12288
+map_long = length-replicate {A = ℤ} 12288 (pos 0)
+
+slots_long : length slots₀ ≡ 16384
+slots_long = length-replicate {A = ℤ} 16384 (pos 0)
+
+values_long : length values₀ ≡ 256
+values_long = length-replicate {A = ℤ} 256 (pos 0)
+
+module _ (all : Bool) (table bytes : List ℕ) (t : Told table bytes) where
   abbrev sheet : Sheet
   sheet = t.taken.sheet
 
-  is : accept table ≡ accepted sheet
+  is : accept table ≡ Ok sheet
   is = (taken_accepted t.taken).0
 
-  many_rows : length sheet.rows ≡ length sheet.records
-  many_rows = let a = accepted_tells table sheet is in omega (arith, passed_many sheet.rows [] _ sheet.records a.total a.passed)
-
-  rows_few : length sheet.rows ≤ 256
-  rows_few = omega (arith, many_rows, (accepted_tells table sheet is).few)
+  pub accepted : Accepted sheet
+  accepted = record { table = table; is = is }
 
   unknowns_few : unknown_count sheet ≤ 256
-  unknowns_few = omega (arith, few_unknowns sheet.rows, rows_few)
+  unknowns_few = omega (arith, few_unknowns sheet.rows, few_rows accepted)
 
   abbrev could : Outcome Sheet
   could = decodable table 256 (length map₀) (length slots₀) bytes (length values₀)
@@ -75,80 +94,69 @@ module _ (all : Bool) (table bytes : List ℕ) (t : Told table bytes) (map₀ sl
   abbrev does : Outcome Sheet
   does = decoding table 256 (length map₀) (length slots₀) bytes (length values₀)
 
-  bytes_pass : (refuse 17 counting 0 unless are_bits bytes) ≡ accepted tt
+  bytes_pass : (refuse NotABit counting 0 unless are_bits bytes) ≡ Ok tt
   bytes_pass = rw (first_false_lem 0 (are_bits bytes), t.bits)
 
-  could_is : could ≡ accepted sheet
+  could_is : could ≡ Ok sheet
   unfolding decodable
   could_is =
-      rw (m, l, v, writing_sheet table 12288 (omega arith), t.taken.is, eq-eqb (length bytes) sheet.counts.variables t.taken.many, bytes_pass, le-ltb 256 (unknown_count sheet) unknowns_few)
+      rw (map_long, slots_long, values_long, writing_sheet table 12288 (omega arith), t.taken.is, eq-eqb (length bytes) sheet.counts.variables t.taken.many, bytes_pass, le-ltb 256 (unknown_count sheet) unknowns_few)
 
-  abbrev marks : List Bool
-  marks = truths bytes (clauses sheet.rows)
+  -- a model that was told is decoded, of the sheet that is told
+  pub decodes : {refusal : Refusal} {X : Type 0} → could ≡ Err refusal → X
+  decodes e = refused_not (sym e ∙ could_is)
+
+  pub tried_is : {s : Sheet} → could ≡ Ok s → sheet ≡ s
+  tried_is e = same_accepted (sym could_is ∙ e)
+
+  abbrev pub told_of : {s : Sheet} → could ≡ Ok s → Told table bytes
+  told_of {s = s} e =
+      record { taken = record { sheet = s; is = t.taken.is ∙ ap Ok (tried_is e); many = t.taken.many ∙ ap (λ (x : Sheet). x.counts.variables) (tried_is e) }; bits = t.bits }
 
   abbrev judged : Outcome (Unit {0})
-  judged = refuse 19 counting 1 unless marks
+  judged = refuse FalseClause counting 1 unless truths bytes (clauses sheet.rows)
 
-  does_is : does ≡ (judged >> accepted sheet)
+  does_is : does ≡ (judged >> Ok sheet)
   unfolding decoding
   does_is = rw could_is
 
-  text_is : {o : Outcome (Unit {0})} → judged ≡ o → told_text all table bytes ≡ printed (o >> accepted (told_by all sheet (assigned bytes)))
+  text_is : {o : Outcome (Unit {0})} → judged ≡ o → told_text all table bytes ≡ printed (o >> Ok (told_by all sheet (assigned bytes)))
   unfolding told_text
   text_is q = rw (t.taken.is, q)
 
-  module _ {s : Survey} (e : s ≡ as_decoded could does) where
-    pub clause_false : (s.number ≡ 0 → ⊥) → told_text all table bytes ≡ refused_line s.number s.place
-    clause_false h = by judged refl
-      where
-        by : (o : Outcome (Unit {0})) → judged ≡ o → told_text all table bytes ≡ refused_line s.number s.place
-        by (refused n p) q = text_is q ∙ rw (e, does_is, q)
-        by (accepted u) q = absurd (h (rw (e, does_is, q)))
+  pub clause_false : {clause : ℕ} → does ≡ refused FalseClause clause → told_text all table bytes ≡ refused_line (refusal_number FalseClause) clause
+  clause_false e = text_is (then_refused judged sheet (sym does_is ∙ e))
 
-    -- no clause is false
-    module _ (h : s.number ≡ 0) where
-      passes : judged ≡ accepted tt
-      passes = by (ltb (false_at 1 marks) (1 + length marks)) refl
-        where
-          by : (b : Bool) → ltb (false_at 1 marks) (1 + length marks) ≡ b → judged ≡ accepted tt
-          by true q = let z : s.number ≡ 19 = rw (e, does_is, q) in absurd (omega (arith, h, z))
-          by false q = rw q
+  pub numerators_few : sheet.counts.unknowns ≤ 256
+  numerators_few = omega (arith, (counts_are_made table sheet is).unknown, unknowns_few)
 
-      done : does ≡ accepted sheet
-      done = does_is ∙ ap (λ (o : Outcome (Unit {0})). o >> accepted sheet) passes
+  -- no clause is false
+  module _ (done : does ≡ Ok sheet) {values : List ℤ} (f : values ≡ left does (settings_of bytes) values₀) where
+    passes : judged ≡ Ok tt
+    passes = (then_accepts judged (sym does_is ∙ done)).1
 
-      unknowns_are : s.counts.unknowns ≡ unknown_count sheet
-      unknowns_are = rw (e, could_is) (counts_are_made table sheet is).unknown
+    abbrev told : List ℤ
+    told = settings sheet (assigned bytes)
 
-      pub numerators_few : s.counts.unknowns ≤ 256
-      numerators_few = omega (arith, unknowns_are, unknowns_few)
+    told_chosen : Chosen sheet.rows told
+    told_chosen = (settings_meet_the_sheet table 256 (length map₀) (length slots₀) bytes (length values₀) sheet done).0
 
-      module _ {values : List ℤ} (f : values ≡ left does (settings_of bytes) values₀) where
-        abbrev told : List ℤ
-        told = settings sheet (assigned bytes)
+    same : take sheet.counts.unknowns values ≡ told
+    same =
+        ap (take sheet.counts.unknowns) (f ∙ sym (left_accepted (settings_of bytes) values₀ done))
+        ∙ take_at told (drop (length told) values₀) sheet.counts.unknowns (told_chosen.within.number ∙ sym (counts_are_made table sheet is).unknown)
 
-        chosen : Chosen sheet.rows told
-        chosen = (settings_meet_the_sheet table 256 (length map₀) (length slots₀) bytes (length values₀) sheet done).0
+    pub chosen : Chosen sheet.rows (take sheet.counts.unknowns values)
+    chosen = rw same told_chosen
 
-        same : take s.counts.unknowns values ≡ told
-        same =
-            ap (take s.counts.unknowns) (f ∙ sym (left_accepted (settings_of bytes) values₀ done))
-            ∙ take_at told (drop (length told) values₀) s.counts.unknowns (chosen.within.number ∙ sym unknowns_are)
+    text_told : {b : Bool} → all ≡ b → told_text all table bytes ≡ told_by b sheet (assigned bytes)
+    text_told h = text_is passes ∙ ap (λ (b : Bool). told_by b sheet (assigned bytes)) h
 
-        text_told : {b : Bool} → all ≡ b → told_text all table bytes ≡ told_by b sheet (assigned bytes)
-        text_told h = text_is passes ∙ ap (λ (b : Bool). told_by b sheet (assigned bytes)) h
+    pub settings_printed : all ≡ false → told_text all table bytes ≡ joined (table_pieces table (take sheet.counts.unknowns values))
+    settings_printed h = text_told h ∙ rw same (sym (settings_joined table sheet is (assigned bytes)))
 
-        pub settings_printed : all ≡ false → told_text all table bytes ≡ joined (table_pieces table (take s.counts.unknowns values))
-        settings_printed h = text_told h ∙ rw same (sym (settings_joined table sheet is (assigned bytes)))
-
-        surveyed : s ≡ as_survey (accepted sheet)
-        surveyed = rw (could_is, done) at e
-
-        pub evaluable : Evaluable table s.rows s.records (take s.counts.unknowns values) 256
-        evaluable = record { table_is = known is surveyed; chosen = rw same chosen; fits = few_rows (known is surveyed) }
-
-        pub values_printed : all ≡ true → told_text all table bytes ≡ value_lines (row_values (rows_of s.rows table) (take s.counts.unknowns values))
-        values_printed h = text_told h ∙ rw (same, ← all_read (known is surveyed))
+    pub values_printed : all ≡ true → told_text all table bytes ≡ value_lines (row_values sheet.rows (take sheet.counts.unknowns values))
+    values_printed h = text_told h ∙ rw same
 
   pub pieces_short : (vs : List ℤ) → length (joined (table_pieces table vs)) ≤ 16384
   pieces_short vs =

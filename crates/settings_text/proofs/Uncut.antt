@@ -1,5 +1,6 @@
 -- The cut at 65,536 bytes changes no answer: the lines end within 4,353 bytes, and a table has fewer than 10,000 variables, so that the text
 -- that claims a model of it ends within 60,100 more. Assumes nothing.
+use Rattle.std.specs.Prelude.{Ok, Err}
 use mathlib.Core.Path.{◌≡◌, refl, sym, ap, ◌∙◌}
 use mathlib.Core.Bool.{Bool, true, ◌&&◌}
 use mathlib.Core.List.{List, [], ◌∷◌}
@@ -12,7 +13,7 @@ use lib.ListN.{length, take, drop}
 use lib.Seq.{length-take-le, take_all}
 use Rattle.circuit.specs.Literals.{Assignment}
 use Rattle.sheet.specs.declared.LinesFound.{LinesFound}
-use Rattle.sheet.specs.Acceptance.{Outcome, refused, accepted, Sheet}
+use Rattle.sheet.specs.Acceptance.{Outcome, Sheet}
 use Rattle.sheet.specs.Calls.{◌>>=◌}
 use Rattle.sheet.specs.Texts.{satisfiable, unsatisfiable, variable_text, model_line, sign_at, signs_in, starts, read_lines, claim_in}
 use Rattle.sheet.specs.Programs.{input_of, sheet_in, printed, settled, reply, settings_told, values_told, settings_program, values_program}
@@ -69,12 +70,12 @@ module _ (tell : Sheet → Assignment → List ℕ) (input : List ℕ) where
   abbrev answer_of : List ℕ → LinesFound → Outcome Sheet → Outcome (List ℕ)
   answer_of text l o = o >>= (λ sheet. claim_in sheet.counts.variables (drop l.rest text) >>= settled tell sheet)
 
-  lines_uncut : (l : LinesFound) → read_lines true input 2048 ≡ accepted l → answer_of (input_of input) l (sheet_in (input_of input) l) ≡ answer_of input l (sheet_in input l)
+  lines_uncut : (l : LinesFound) → read_lines true input 2048 ≡ Ok l → answer_of (input_of input) l (sheet_in (input_of input) l) ≡ answer_of input l (sheet_in input l)
   lines_uncut l e = ap (answer_of (input_of input) l) (found_cut true input l e) ∙ by (sheet_in input l) refl
     where
       by : (o : Outcome Sheet) → sheet_in input l ≡ o → answer_of (input_of input) l o ≡ answer_of input l o
-      by (refused n p) q = refl
-      by (accepted sheet) q =
+      by (Err refusal) q = refl
+      by (Ok sheet) q =
           let few = taken_few (record { sheet = sheet; is = q; many = refl }) in
           let near = (read_near input l e).1 in
           rw (drop_cut l.rest 65536 input, claim_cut sheet.counts.variables (65536 - l.rest) (drop l.rest input) few (omega (arith, near)))
@@ -85,8 +86,8 @@ module _ (tell : Sheet → Assignment → List ℕ) (input : List ℕ) where
     where
       by : (o : Outcome LinesFound) → read_lines true input 2048 ≡ o
           → printed (o >>= (λ l. answer_of (input_of input) l (sheet_in (input_of input) l))) ≡ printed (o >>= (λ l. answer_of input l (sheet_in input l)))
-      by (refused n p) e = refl
-      by (accepted l) e = ap printed (lines_uncut l e)
+      by (Err refusal) e = refl
+      by (Ok l) e = ap printed (lines_uncut l e)
 
 -- the cut of the input changes no answer
 pub uncut : Uncut

@@ -1,9 +1,10 @@
 -- What the settings program and the values program print, step by step: of a table and the text behind it, of a table and a model; and a
 -- model that can be judged. Assumes nothing.
+use Rattle.std.specs.Prelude.{Ok, Err}
 use Rattle.std.specs.Prelude.{◌≡◌, Bool, true, false, List, ℕ, length}
 use Rattle.circuit.specs.Literals.{Assignment}
 use Rattle.sheet.specs.Values.{every}
-use Rattle.sheet.specs.Acceptance.{accepted, Sheet}
+use Rattle.sheet.specs.Acceptance.{Sheet}
 use Rattle.sheet.specs.Calls.{◌>>=◌}
 use Rattle.sheet.specs.Texts.{model, claim_in}
 use Rattle.sheet.specs.Programs.{printed, settled, settings_told, values_told}
@@ -29,7 +30,7 @@ told_text all table bytes = printed (do
 -- the program goes on with a table of so many variables
 pub record Taken (table : List ℕ) (variables : ℕ) : Type 0 where
   pub sheet : Sheet
-  pub is : sheet_of table ≡ accepted sheet
+  pub is : sheet_of table ≡ Ok sheet
   pub many : variables ≡ sheet.counts.variables
 
 -- and with a byte, 0 or 1, for each

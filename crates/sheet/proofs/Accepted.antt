@@ -1,5 +1,6 @@
 -- What acceptance tells: every row of an accepted table is read, passed every test, and has the record and counts of its plan.
 -- Assumes nothing.
+use Rattle.std.specs.Prelude.{Ok, Err}
 use mathlib.Core.Path.{◌≡◌, refl, sym, ◌∙◌, ap, subst}
 use mathlib.Core.Bool.{Bool, true, false, not, false≢true}
 use mathlib.Core.List.{List, [], ◌∷◌, ◌++◌, append_assoc, append-nil}
@@ -14,13 +15,12 @@ use Rattle.circuit.specs.Counting.{◌⊕◌, the_first, the_last}
 use Rattle.sheet.specs.declared.Kind.{Kind}
 use Rattle.sheet.specs.declared.Kind.TheVariants.{BooleanConstant, BooleanUnknown, NaturalUnknown, IntegerUnknown, NumberConstant, Not, And, Or, Implies, Iff, Sum, Difference, Product, Choice, Greater, Equal}
 use Rattle.sheet.specs.declared.Fields.{Fields}
-use Rattle.sheet.specs.declared.Reading.{Reading}
-use Rattle.sheet.specs.declared.Reading.TheVariants.{Read, Refused}
 use Rattle.sheet.specs.declared.Record.{Record}
-use Rattle.sheet.specs.declared.Verdict.{Verdict}
-use Rattle.sheet.specs.declared.Verdict.TheVariants.{Pass, Stop}
-use Rattle.sheet.specs.Rows.{read_row, and_rows, rows_of, uses}
-use Rattle.sheet.specs.Acceptance.{out_of_range, sorts_in, some_not_earlier, some_of_wrong_sort, Plan, meeting, larger, plan_by, stop◌if◌else◌, record_by, record_at, judge, Outcome, refused, accepted, Sheet, onward, walk, accept}
+use Rattle.sheet.specs.declared.Passed.{Passed as RowPassed}
+use Rattle.sheet.specs.declared.Reason.{Reason}
+use Rattle.sheet.specs.declared.Reason.TheVariants.{OutOfRange, NotEarlier, WrongSort, LargeDenominator, TooWide}
+use Rattle.sheet.specs.Rows.{Reading, read_row, and_rows, rows_of, uses}
+use Rattle.sheet.specs.Acceptance.{out_of_range, sorts_in, some_not_earlier, some_of_wrong_sort, Plan, meeting, larger, plan_by, Verdict, stop◌if◌else◌, record_by, record_at, judge, Outcome, refused, Sheet, onward, walk, accept}
 -- named so that the examples are checked before every law: a wrong definition is refused first by what an example computes
 use Rattle.sheet.proofs.Called.{refused_not, same_accepted}
 
@@ -127,31 +127,27 @@ passed_behind before f behind records total p =
       place = passed_many before [] the_first earlier so q ∙ omega arith;
     }
 
-not_stopped : (n : ℕ) (b : Bool) (v : Verdict) {r : Record} {k : Counts} → (stop n if b else v) ≡ Pass r k → (b ≡ false) × (v ≡ Pass r k)
-not_stopped n true v e = let z : ◌≡◌ {A = ℕ} 0 1 = cc in absurd (omega arith)
+not_stopped : (n : Reason) (b : Bool) (v : Verdict) {p : RowPassed} → (stop n if b else v) ≡ Ok p → (b ≡ false) × (v ≡ Ok p)
+not_stopped n true v e = refused_not e
 not_stopped n false v e = (refl, e)
 
--- constructors' arguments are equal where their results are
-same_pass : {r s : Record} {k l : Counts} → Pass r k ≡ Pass s l → (s ≡ r) × (l ≡ k)
-same_pass e = (cc, cc)
-
-pub judge_passes : (earlier : List Record) (first : ℕ) (f : Fields) (r : Record) (k : Counts) → judge earlier first (Read f) ≡ Pass r k → Passes earlier first f r k
+pub judge_passes : (earlier : List Record) (first : ℕ) (f : Fields) (p : RowPassed) → judge earlier first (Ok f) ≡ Ok p → Passes earlier first f p.row p.counts
 unfolding judge
-judge_passes earlier first f r k e =
-    let e₅ = not_stopped 5 _ _ e in
-    let e₆ = not_stopped 6 (some_not_earlier (length earlier) (sorts_in (uses f.kind)) (f.x ∷ f.y ∷ f.z ∷ [])) _ e₅.1 in
-    let e₇ = not_stopped 7 _ _ e₆.1 in
-    let e₈ = not_stopped 8 _ _ e₇.1 in
-    let e₉ = not_stopped 9 _ _ e₈.1 in
-    let same = same_pass e₉.1 in
+judge_passes earlier first f p e =
+    let e₅ = not_stopped OutOfRange _ _ e in
+    let e₆ = not_stopped NotEarlier (some_not_earlier (length earlier) (sorts_in (uses f.kind)) (f.x ∷ f.y ∷ f.z ∷ [])) _ e₅.1 in
+    let e₇ = not_stopped WrongSort _ _ e₆.1 in
+    let e₈ = not_stopped LargeDenominator _ _ e₇.1 in
+    let e₉ = not_stopped TooWide _ _ e₈.1 in
+    let same = sym (same_accepted e₉.1) in
     record {
       ranged = e₅.0;
       named = e₆.0;
       sorted = e₇.0;
       common = ltb-false _ _ e₈.0;
       widest = ltb-false _ _ e₉.0;
-      is_record = same.0;
-      is_counts = same.1;
+      is_record = ap (λ (p : RowPassed). p.row) same;
+      is_counts = ap (λ (p : RowPassed). p.counts) same;
     }
 
 -- what a walk that ends well tells
@@ -163,12 +159,12 @@ pub record Walked (table : List ℕ) (earlier : List Record) (so : Counts) (rows
   pub ends : eqb (sort_at sheet.records (length sheet.records - 1)) 1 ≡ false
   pub read : sheet.rows ≡ rows_of (length sheet.records) table
 
-not_refused : (b : Bool) (n p : ℕ) (o : Outcome Sheet) {sheet : Sheet} → (if b then refused n p otherwise o) ≡ accepted sheet → (b ≡ false) × (o ≡ accepted sheet)
+not_refused : (b : Bool) (n : Reason) (p : ℕ) (o : Outcome Sheet) {sheet : Sheet} → (if b then refused n p otherwise o) ≡ Ok sheet → (b ≡ false) × (o ≡ Ok sheet)
 not_refused true n p o e = refused_not e
 not_refused false n p o e = (refl, e)
 
 walk_tells : (table : List ℕ) (left : ℕ) (earlier : List Record) (so : Counts) (bytes : List ℕ) (sheet : Sheet)
-    → walk table earlier so left bytes ≡ accepted sheet → Walked table earlier so (rows_of left bytes) left sheet
+    → walk table earlier so left bytes ≡ Ok sheet → Walked table earlier so (rows_of left bytes) left sheet
 unfolding walk rows_of judge
 walk_tells table zero earlier so bytes sheet e =
     let h = not_refused (eqb (sort_at earlier (length earlier - 1)) 1) _ _ _ e in
@@ -187,26 +183,26 @@ walk_tells table (suc left) earlier so bytes sheet e = step (read_row (take 8 by
     rest rs k = walk table rs k left (drop 8 bytes)
 
     Rest : Type 0
-    Rest = (rs : List Record) (k : Counts) → rest rs k ≡ accepted sheet → Walked table rs k (rows_of left (drop 8 bytes)) left sheet
+    Rest = (rs : List Record) (k : Counts) → rest rs k ≡ Ok sheet → Walked table rs k (rows_of left (drop 8 bytes)) left sheet
 
-    onwards : (f : Fields) (v : Verdict) → judge earlier so.slots (Read f) ≡ v → onward v earlier so rest ≡ accepted sheet → Rest
+    onwards : (f : Fields) (v : Verdict) → judge earlier so.slots (Ok f) ≡ v → onward v earlier so rest ≡ Ok sheet → Rest
         → Walked table earlier so (f ∷ rows_of left (drop 8 bytes)) (suc left) sheet
-    onwards f (Stop n) q e h = let z : ◌≡◌ {A = ℕ} 0 1 = cc in absurd (omega arith)
-    onwards f (Pass r k) q e h =
-        let w = h (earlier ++ r ∷ []) (so ⊕ k) e in
+    onwards f (Err n) q e h = refused_not e
+    onwards f (Ok p) q e h =
+        let w = h (earlier ++ p.row ∷ []) (so ⊕ p.counts) e in
         record {
           total = w.total;
-          passed = (r, k, judge_passes earlier so.slots f r k q, w.passed);
+          passed = (p.row, p.counts, judge_passes earlier so.slots f p q, w.passed);
           counted = w.counted;
-          many = w.many ∙ rw (length-append earlier (r ∷ [])) (omega arith);
+          many = w.many ∙ rw (length-append earlier (p.row ∷ [])) (omega arith);
           ends = w.ends;
           read = w.read;
         }
 
-    step : (reading : Reading) → onward (judge earlier so.slots reading) earlier so rest ≡ accepted sheet → Rest
+    step : (reading : Reading) → onward (judge earlier so.slots reading) earlier so rest ≡ Ok sheet → Rest
         → Walked table earlier so (and_rows reading (rows_of left (drop 8 bytes))) (suc left) sheet
-    step (Refused n) e h = let z : ◌≡◌ {A = ℕ} 0 1 = cc in absurd (omega arith)
-    step (Read f) e h = onwards f (judge earlier so.slots (Read f)) refl e h
+    step (Err n) e h = refused_not e
+    step (Ok f) e h = onwards f (judge earlier so.slots (Ok f)) refl e h
 
 -- bytes in eights, and at least one
 at_least_one : (n : ℕ) → eqb n 0 ≡ false → not (eqb (n % 8) 0) ≡ false → 0 < n / 8
@@ -241,7 +237,7 @@ walked_accepted table sheet w h eights small =
       few = omega (arith, many);
     }
 
-pub accepted_tells : (table : List ℕ) (sheet : Sheet) → accept table ≡ accepted sheet → IsAccepted table sheet
+pub accepted_tells : (table : List ℕ) (sheet : Sheet) → accept table ≡ Ok sheet → IsAccepted table sheet
 unfolding accept
 accepted_tells table sheet e =
     let filled = not_refused (eqb (length table) 0) _ _ _ e in

@@ -1,4 +1,5 @@
 -- A table counts few variables and clauses: its rows are few, and no product in one is wider than 48 bits. Assumes nothing.
+use Rattle.std.specs.Prelude.{Ok}
 use mathlib.Core.Path.{◌≡◌}
 use mathlib.Core.Bool.{Bool, true, false}
 use mathlib.Core.List.{List, [], ◌∷◌, ◌++◌}
@@ -16,7 +17,7 @@ use Rattle.sheet.specs.declared.Kind.{Kind}
 use Rattle.sheet.specs.declared.Kind.TheVariants.{BooleanConstant, BooleanUnknown, NaturalUnknown, IntegerUnknown, NumberConstant, Not, And, Or, Implies, Iff, Sum, Difference, Product, Choice, Greater, Equal}
 use Rattle.sheet.specs.declared.Fields.{Fields}
 use Rattle.sheet.specs.declared.Record.{Record}
-use Rattle.sheet.specs.Acceptance.{meeting, larger, bringing, plan_by, record_at, accepted, Sheet, accept}
+use Rattle.sheet.specs.Acceptance.{meeting, larger, bringing, plan_by, record_at, Sheet, accept}
 use Rattle.sheet.proofs.Accepted.{Passed, passed_many, accepted_tells}
 
 pub record Few (n : ℕ) (k : Counts) : Type 0 where
@@ -68,7 +69,7 @@ rows_few (f ∷ rows) rs so records total p =
     let own = rw (← p.2.is_counts) at plan in
     (omega arith, omega arith)
 
-pub counts_few : (table : List ℕ) (sheet : Sheet) → accept table ≡ accepted sheet → Few 12800002 sheet.counts
+pub counts_few : (table : List ℕ) (sheet : Sheet) → accept table ≡ Ok sheet → Few 12800002 sheet.counts
 counts_few table sheet e =
     let a = accepted_tells table sheet e in
     let many = passed_many sheet.rows [] the_first sheet.records a.total a.passed in

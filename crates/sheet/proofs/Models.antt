@@ -1,4 +1,5 @@
 -- A text is read as a model exactly if it is that model in print; and a model in print is short. Assumes nothing.
+use Rattle.std.specs.Prelude.{Ok}
 use mathlib.Core.Path.{◌≡◌, refl, sym, ap, ap₂, ◌∙◌}
 use mathlib.Core.Bool.{Bool, true, false, false≢true, and-eq-true_iff}
 use mathlib.Core.List.{List, [], ◌∷◌, ◌++◌, append_assoc}
@@ -10,10 +11,12 @@ use lib.Dec.{eqb, ltb}
 use lib.ListN.{length, drop, length-append}
 use lib.Seq.{drop-append_seam}
 use Rattle.whole.specs.Tests.{if◌then◌otherwise◌}
-use Rattle.sheet.specs.Acceptance.{Outcome, refused, accepted}
+use Rattle.sheet.specs.declared.Reason.TheVariants.{BadClaim}
+use Rattle.sheet.specs.Acceptance.{Outcome, refused}
 use Rattle.sheet.specs.Calls.{◌giving◌}
 use Rattle.sheet.specs.Texts.{ascii, digit, digits_in, decimal, Claim, none_claimed, model, satisfiable, unsatisfiable, variable_text, variable_texts, model_line, sign_at, signs_in, starts, model_claim, claim_in, is_model}
 use Rattle.sheet.specs.Statements.{AcceptedPrinted, Bits, PrintedAccepted}
+use Rattle.sheet.proofs.Called.{refused_not, same_accepted}
 use Rattle.sheet.proofs.Decimals.{length_one, length_more}
 
 -- ---- what is accepted is printed so
@@ -24,12 +27,12 @@ module _ (n : ℕ) (text : List ℕ) where
 
   -- a model is claimed only where the text is its first line and the line of the model that the signs tell
   pub record Claimed : Type 0 where
-    pub outcome : claim_in n text ≡ accepted (model told)
+    pub outcome : claim_in n text ≡ Ok (model told)
     pub first : starts satisfiable text ≡ true
     pub line : starts (model_line told) (drop 14 text) ≡ true
     pub whole : eqb (length (drop 14 text)) (length (model_line told)) ≡ true
 
-  pub model_claimed : accepted true ≡ (claim_in n text giving is_model) → Claimed
+  pub model_claimed : Ok true ≡ (claim_in n text giving is_model) → Claimed
   unfolding claim_in
   model_claimed e =
       let none = starts unsatisfiable text in
@@ -41,17 +44,17 @@ module _ (n : ℕ) (text : List ℕ) where
     where
       claim : (u v w x y : Bool) → Outcome Claim
       claim u v w x y =
-          if u then if v then accepted none_claimed otherwise refused 21 1 otherwise
-          if w then if x then if y then accepted (model told) otherwise refused 21 2 otherwise refused 21 1 otherwise
-          refused 21 0
+          if u then if v then Ok none_claimed otherwise refused BadClaim 1 otherwise
+          if w then if x then if y then Ok (model told) otherwise refused BadClaim 2 otherwise refused BadClaim 1 otherwise
+          refused BadClaim 0
 
-      by : (u v w x y : Bool) → accepted true ≡ (claim u v w x y giving is_model) → (claim u v w x y ≡ accepted (model told)) × (w ≡ true) × (x ≡ true) × (y ≡ true)
-      by true true w x y e = let z : ◌≡◌ {A = ℕ} 0 1 = cc in absurd (omega arith)
-      by true false w x y e = let z : ◌≡◌ {A = ℕ} 0 1 = cc in absurd (omega arith)
+      by : (u v w x y : Bool) → Ok true ≡ (claim u v w x y giving is_model) → (claim u v w x y ≡ Ok (model told)) × (w ≡ true) × (x ≡ true) × (y ≡ true)
+      by true true w x y e = absurd (false≢true (sym (same_accepted e)))
+      by true false w x y e = refused_not (sym e)
       by false v true true true e = (refl, refl, refl, refl)
-      by false v true true false e = let z : ◌≡◌ {A = ℕ} 0 1 = cc in absurd (omega arith)
-      by false v true false y e = let z : ◌≡◌ {A = ℕ} 0 1 = cc in absurd (omega arith)
-      by false v false x y e = let z : ◌≡◌ {A = ℕ} 0 1 = cc in absurd (omega arith)
+      by false v true true false e = refused_not (sym e)
+      by false v true false y e = refused_not (sym e)
+      by false v false x y e = refused_not (sym e)
 
 -- p stands in front of the text
 front_part : (p text : List ℕ) → starts p text ≡ true → text ≡ p ++ drop (length p) text
@@ -118,7 +121,7 @@ unfolding starts
 starts_self [] = refl
 starts_self (a ∷ p) = rw (eq-eqb a a refl) (starts_self p)
 
-right_line : (bs : List ℕ) → model_claim bs (model_line bs) ≡ accepted (model bs)
+right_line : (bs : List ℕ) → model_claim bs (model_line bs) ≡ Ok (model bs)
 right_line bs = rw (starts_self (model_line bs), eq-eqb (length (model_line bs)) (length (model_line bs)) refl)
 
 pub printed_accepted : PrintedAccepted

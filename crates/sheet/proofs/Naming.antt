@@ -1,4 +1,5 @@
 -- The clauses of a table name no variable but those that are made. Assumes nothing.
+use Rattle.std.specs.Prelude.{Ok}
 use mathlib.Core.Path.{◌≡◌, ap}
 use mathlib.Core.List.{List, [], ◌∷◌, ◌++◌}
 use Prim.Native.Nat.{ℕ, suc, ◌+◌, ◌-◌, ◌≤◌, ◌<◌}
@@ -11,7 +12,7 @@ use Rattle.circuit.specs.Circuits.{gates, clauses_from}
 use Rattle.circuit.proofs.Wellformed.{WfGate, Wf}
 use Rattle.circuit.proofs.Bounds.{bound, var_neg}
 use Rattle.sheet.specs.declared.Fields.{Fields}
-use Rattle.sheet.specs.Acceptance.{accepted, Sheet, accept}
+use Rattle.sheet.specs.Acceptance.{Sheet, accept}
 use Rattle.sheet.specs.Steps.{cell_at, steps, cells, clauses_but_last, last_clause, clauses}
 use Rattle.sheet.proofs.Accepted.{accepted_tells}
 use Rattle.sheet.proofs.Counted.{first_named, cell_at_lem}
@@ -58,7 +59,7 @@ some_made : (rows : List Fields) → 0 < length (gates 0 (steps rows))
 unfolding steps
 some_made rows = omega arith
 
-pub clauses_named : (table : List ℕ) (sheet : Sheet) → accept table ≡ accepted sheet → AllNamed sheet.counts.variables (clauses sheet.rows)
+pub clauses_named : (table : List ℕ) (sheet : Sheet) → accept table ≡ Ok sheet → AllNamed sheet.counts.variables (clauses sheet.rows)
 unfolding clauses clauses_but_last last_clause
 clauses_named table sheet e =
     let a = accepted_tells table sheet e in

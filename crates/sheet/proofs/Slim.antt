@@ -1,5 +1,6 @@
 -- A table whose slots fit has fewer than 10,000 variables: a variable that is no unknown's takes ten slots or more, and a row has at most
 -- 32 of an unknown. Assumes nothing.
+use Rattle.std.specs.Prelude.{Ok}
 use mathlib.Core.Path.{◌≡◌, ap}
 use mathlib.Core.Bool.{Bool, true, false}
 use mathlib.Core.List.{List, [], ◌∷◌, ◌++◌}
@@ -17,7 +18,7 @@ use Rattle.sheet.specs.declared.Kind.TheVariants.{BooleanConstant, BooleanUnknow
 use Rattle.sheet.specs.declared.Fields.{Fields}
 use Rattle.sheet.specs.declared.Record.{Record}
 use Rattle.sheet.specs.Rows.{uses}
-use Rattle.sheet.specs.Acceptance.{outside, out_of_range, meeting, bringing, plan_by, record_at, accepted, Sheet, accept}
+use Rattle.sheet.specs.Acceptance.{outside, out_of_range, meeting, bringing, plan_by, record_at, Sheet, accept}
 use Rattle.sheet.proofs.Accepted.{Passes, Passed, passed_many, accepted_tells}
 use Rattle.sheet.proofs.Tested.{neither, at_most}
 
@@ -72,7 +73,7 @@ rows_slim : (rows : List Fields) (rs : List Record) (so : Counts) (records : Lis
 rows_slim [] rs so records total p = rw p.1 (omega arith)
 rows_slim (f ∷ rows) rs so records total p = omega (arith, passes_slim p.2, rows_slim rows (rs ++ p.0 ∷ []) (so ⊕ p.1) records total p.3)
 
-pub variables_few : (table : List ℕ) (sheet : Sheet) → accept table ≡ accepted sheet → sheet.counts.slots ≤ 16384 → sheet.counts.variables < 10000
+pub variables_few : (table : List ℕ) (sheet : Sheet) → accept table ≡ Ok sheet → sheet.counts.slots ≤ 16384 → sheet.counts.variables < 10000
 variables_few table sheet e h =
     let a = accepted_tells table sheet e in
     let v = ap (λ (k : Counts). k.variables) a.counted in

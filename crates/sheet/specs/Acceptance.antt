@@ -1,6 +1,6 @@
 -- "Widths" and refusals 1 to 10: a row passes with its record or stops with its refusal; a table is accepted or refused at a
 -- place. The order of the refusals is the order of the lines. Assumes nothing.
-use Rattle.std.specs.Prelude.{Bool, true, false, not, ◌||◌, List, [], ◌∷◌, ◌++◌, ℕ, zero, suc, ◌+◌, ◌*◌, ◌-◌, ◌/◌, ◌%◌, max, eqb, ltb, leb, length, get_or, take, drop}
+use Rattle.std.specs.Prelude.{Result, Ok, Err, Bool, true, false, not, ◌||◌, List, [], ◌∷◌, ◌++◌, ℕ, zero, suc, ◌+◌, ◌*◌, ◌-◌, ◌/◌, ◌%◌, max, eqb, ltb, leb, length, get_or, take, drop}
 use Rattle.whole.specs.Tests.{if◌then◌otherwise◌}
 use Rattle.whole.specs.Bits.{fewest}
 use Rattle.whole.specs.Divisors.{lcm}
@@ -9,12 +9,37 @@ use Rattle.circuit.specs.Counting.{◌⊕◌, times, nothing, an_unknown, an_and
 use Rattle.sheet.specs.declared.Kind.{Kind}
 use Rattle.sheet.specs.declared.Kind.TheVariants.{BooleanConstant, BooleanUnknown, NaturalUnknown, IntegerUnknown, NumberConstant, Not, And, Or, Implies, Iff, Sum, Difference, Product, Choice, Greater, Equal}
 use Rattle.sheet.specs.declared.Fields.{Fields}
-use Rattle.sheet.specs.declared.Reading.{Reading}
-use Rattle.sheet.specs.declared.Reading.TheVariants.{Read, Refused}
 use Rattle.sheet.specs.declared.Record.{Record}
-use Rattle.sheet.specs.declared.Verdict.{Verdict}
-use Rattle.sheet.specs.declared.Verdict.TheVariants.{Pass, Stop}
-use Rattle.sheet.specs.Rows.{read_row, rows_of, constant_in, Uses, a_flag, a_boolean, a_natural, an_integer, a_constant, the_rows, uses}
+use Rattle.sheet.specs.declared.Passed.{Passed}
+use Rattle.sheet.specs.declared.Reason.{Reason}
+use Rattle.sheet.specs.declared.Reason.TheVariants.{WrongLength, TooManyRows, UnknownKind, UnusedField, OutOfRange, NotEarlier, WrongSort, LargeDenominator, TooWide, EndsInNumber, FewRecords, ShortMap, FewSlots, ValueCount, ValueOutside, ModelLength, NotABit, ShortBuffer, FalseClause, BadLine, BadClaim, NoSuchRow}
+use Rattle.sheet.specs.declared.Refusal.{Refusal}
+use Rattle.sheet.specs.Rows.{Reading, read_row, rows_of, constant_in, Uses, a_flag, a_boolean, a_natural, an_integer, a_constant, the_rows, uses}
+
+-- document 01's numbers
+abbrev pub refusal_number : Reason → ℕ
+refusal_number WrongLength = 1
+refusal_number TooManyRows = 2
+refusal_number UnknownKind = 3
+refusal_number UnusedField = 4
+refusal_number OutOfRange = 5
+refusal_number NotEarlier = 6
+refusal_number WrongSort = 7
+refusal_number LargeDenominator = 8
+refusal_number TooWide = 9
+refusal_number EndsInNumber = 10
+refusal_number FewRecords = 11
+refusal_number ShortMap = 12
+refusal_number FewSlots = 13
+refusal_number ValueCount = 14
+refusal_number ValueOutside = 15
+refusal_number ModelLength = 16
+refusal_number NotABit = 17
+refusal_number ShortBuffer = 18
+refusal_number FalseClause = 19
+refusal_number BadLine = 20
+refusal_number BadClaim = 21
+refusal_number NoSuchRow = 22
 
 -- a constant, p or declared denominator out of range
 abbrev pub outside : (least most n : ℕ) → Bool
@@ -100,10 +125,14 @@ plan_by Choice p x y z a b c = number_plan (larger b c) (meeting b c) (bringing 
 plan_by Greater p x y z a b c = comparison_plan (larger a b) (meeting a b) (bringing a b ⊕ times (larger a b) ordering_bit)
 plan_by Equal p x y z a b c = comparison_plan (larger a b) (meeting a b) (bringing a b ⊕ times (larger a b) matching_bit)
 
+-- a row passes with its record and what it counts, or stops with its refusal
+abbrev pub Verdict : Type 0
+Verdict = Result Passed Reason
+
 infixr 5 stop◌if◌else◌
-abbrev pub stop◌if◌else◌ : ℕ → Bool → Verdict → Verdict
-stop◌if◌else◌ n true v = Stop n
-stop◌if◌else◌ n false v = v
+abbrev pub stop◌if◌else◌ : Reason → Bool → Verdict → Verdict
+stop◌if◌else◌ reason true v = Err reason
+stop◌if◌else◌ reason false v = v
 
 -- a row that passes has its first slot at `first`
 abbrev pub record_by : (first : ℕ) → Plan → Record
@@ -111,12 +140,12 @@ record_by first m = record { sort = m.sort; width = m.width; denominator = m.den
 
 abbrev pub judge_by : (rows first : ℕ) → Kind → (p x y z : ℕ) → (a b c : Record) → Verdict
 judge_by rows first k p x y z a b c =
-    stop 5 if out_of_range (uses k) p x z else
-    stop 6 if some_not_earlier rows (sorts_in (uses k)) (x ∷ y ∷ z ∷ []) else
-    stop 7 if some_of_wrong_sort (sorts_in (uses k)) (a ∷ b ∷ c ∷ []) else
-    stop 8 if ltb 4096 (plan_by k p x y z a b c).common else
-    stop 9 if ltb 48 (plan_by k p x y z a b c).widest else
-    Pass (record_by first (plan_by k p x y z a b c)) (plan_by k p x y z a b c).counts
+    stop OutOfRange if out_of_range (uses k) p x z else
+    stop NotEarlier if some_not_earlier rows (sorts_in (uses k)) (x ∷ y ∷ z ∷ []) else
+    stop WrongSort if some_of_wrong_sort (sorts_in (uses k)) (a ∷ b ∷ c ∷ []) else
+    stop LargeDenominator if ltb 4096 (plan_by k p x y z a b c).common else
+    stop TooWide if ltb 48 (plan_by k p x y z a b c).widest else
+    Ok (record { row = record_by first (plan_by k p x y z a b c); counts = (plan_by k p x y z a b c).counts })
 
 -- what stands for a row that is not earlier, which 6 refuses first
 abbrev pub missing : Record
@@ -126,14 +155,17 @@ abbrev pub record_at : List Record → ℕ → Record
 record_at records x = get_or records x missing
 
 unfoldable pub judge : (earlier : List Record) (first : ℕ) → Reading → Verdict
-judge earlier first (Refused n) = Stop n
-judge earlier first (Read f) =
+judge earlier first (Err reason) = Err reason
+judge earlier first (Ok f) =
     judge_by (length earlier) first f.kind f.p f.x f.y f.z (record_at earlier f.x) (record_at earlier f.y) (record_at earlier f.z)
 
--- refused, with the place; or what was asked for
-pub data Outcome (A : Type 0) : Type 0 where
-  refused : (number place : ℕ) → Outcome A
-  accepted : A → Outcome A
+-- what was asked for; or refused, with the place
+abbrev pub Outcome : Type 0 → Type 0
+Outcome A = Result A Refusal
+
+module _ {A : Type 0} where
+  abbrev pub refused : Reason → (place : ℕ) → Outcome A
+  refused reason place = Err (record { reason = reason; place = place })
 
 -- an accepted table: its rows, their records, and what it counts, both units included
 pub record Sheet : Type 0 where
@@ -144,12 +176,12 @@ pub record Sheet : Type 0 where
 -- the last row must be Boolean
 abbrev pub ending : List ℕ → List Record → Counts → Outcome Sheet
 ending table records so =
-    if eqb (record_at records (length records - 1)).sort 1 then refused 10 (length records - 1) otherwise
-    accepted (record { rows = rows_of (length records) table; records = records; counts = so ⊕ the_last })
+    if eqb (record_at records (length records - 1)).sort 1 then refused EndsInNumber (length records - 1) otherwise
+    Ok (record { rows = rows_of (length records) table; records = records; counts = so ⊕ the_last })
 
 abbrev pub onward : Verdict → List Record → Counts → (List Record → Counts → Outcome Sheet) → Outcome Sheet
-onward (Stop n) earlier so rest = refused n (length earlier)
-onward (Pass r k) earlier so rest = rest (earlier ++ r ∷ []) (so ⊕ k)
+onward (Err reason) earlier so rest = refused reason (length earlier)
+onward (Ok passed) earlier so rest = rest (earlier ++ passed.row ∷ []) (so ⊕ passed.counts)
 
 -- so many rows left, in the bytes left; the rows before counted so
 unfoldable pub walk : (table : List ℕ) → List Record → Counts → (left : ℕ) → List ℕ → Outcome Sheet
@@ -158,7 +190,7 @@ walk table earlier so (suc left) bytes = onward (judge earlier so.slots (read_ro
 
 unfoldable pub accept : List ℕ → Outcome Sheet
 accept table =
-    if eqb (length table) 0 then refused 1 0 otherwise
-    if not (eqb (length table % 8) 0) then refused 1 0 otherwise
-    if ltb 256 (length table / 8) then refused 2 0 otherwise
+    if eqb (length table) 0 then refused WrongLength 0 otherwise
+    if not (eqb (length table % 8) 0) then refused WrongLength 0 otherwise
+    if ltb 256 (length table / 8) then refused TooManyRows 0 otherwise
     walk table [] the_first (length table / 8) table

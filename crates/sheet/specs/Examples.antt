@@ -1,6 +1,6 @@
 -- Document 01's examples that are marked *, each refusal of a table once, and one sheet of every kind, as one table with one
 -- theorem, proved by computing. Assumes nothing.
-use Rattle.std.specs.Prelude.{◌≡◌, refl, List, [], ◌∷◌, ◌++◌, map, ℕ, ◌/◌, ◌%◌, length, replicate, ℤ, pos, negsuc}
+use Rattle.std.specs.Prelude.{Ok, Err, ◌≡◌, refl, List, [], ◌∷◌, ◌++◌, map, ℕ, ◌/◌, ◌%◌, length, replicate, ℤ, pos, negsuc}
 use Rattle.std.proofs.Math.Option.{Option, none, some, bind}
 use Prim.Native.String.{String}
 use Rattle.whole.specs.Bits.{bit}
@@ -11,9 +11,9 @@ use Rattle.circuit.specs.Numbers.{product}
 use Rattle.circuit.specs.Counting.{a_product, expanded_width, an_expansion}
 use Rattle.circuit.specs.Examples.{Example, ◌gives◌}
 use Rattle.sheet.specs.declared.Record.{Record}
-use Rattle.sheet.specs.Rows.{kind_of, read_row, rows_of}
+use Rattle.sheet.specs.Rows.{named, read_row, rows_of}
 use Rattle.sheet.specs.Values.{numerator, denominator, row_val, row_values}
-use Rattle.sheet.specs.Acceptance.{Outcome, refused, accepted, Sheet, judge, walk, accept}
+use Rattle.sheet.specs.Acceptance.{refusal_number, Outcome, Sheet, judge, walk, accept}
 use Rattle.sheet.specs.Steps.{row_steps, steps, cells, clauses_but_last, last_clause, clauses, slots_for, read_rows, settings, extension}
 use Rattle.sheet.specs.Calls.{constraint}
 use Rattle.sheet.specs.Texts.{ascii, begins_line, bytes_in, table_in, lines_from, read_lines, digits_in, decimal, signed, slot_text, slot_texts, dimacs, setting_lines, row_lines, refused_line, variable_text, variable_texts, model_line, sign_at, signs_in, starts, claim_in}
@@ -33,8 +33,8 @@ end = row 0x00 0 1 0 0
 
 -- what a table shows: number and place of its refusal, or what is asked of the sheet
 abbrev shown : (Sheet → List ℤ) → Outcome Sheet → List ℤ
-shown f (refused n p) = pos n ∷ pos p ∷ []
-shown f (accepted sheet) = f sheet
+shown f (Err refusal) = pos (refusal_number refusal.reason) ∷ pos refusal.place ∷ []
+shown f (Ok sheet) = f sheet
 
 abbrev widths : List ℕ → List ℤ
 widths table = shown (λ sheet. map (λ (r : Record). pos r.width) sheet.records) (accept table)
@@ -196,5 +196,5 @@ examples =
     ∷ []
 
 pub examples_hold : map (λ (e : Example). e.shows) examples ≡ map (λ (e : Example). e.wanted) examples
-unfolding gcd lcm a_product expanded_width an_expansion kind_of read_row rows_of row_val row_values judge walk accept row_steps steps cells clauses_but_last last_clause clauses slots_for read_rows settings extension constraint begins_line bytes_in table_in lines_from read_lines digits_in decimal signed slot_text slot_texts dimacs setting_lines row_lines refused_line variable_text variable_texts model_line sign_at signs_in starts claim_in bind pieces filled words digits_behind natural integer clauses_spelt behind_comments line_in read_dimacs clause_program costs_program reply settings_program values_program
+unfolding gcd lcm a_product expanded_width an_expansion named read_row rows_of row_val row_values judge walk accept row_steps steps cells clauses_but_last last_clause clauses slots_for read_rows settings extension constraint begins_line bytes_in table_in lines_from read_lines digits_in decimal signed slot_text slot_texts dimacs setting_lines row_lines refused_line variable_text variable_texts model_line sign_at signs_in starts claim_in bind pieces filled words digits_behind natural integer clauses_spelt behind_comments line_in read_dimacs clause_program costs_program reply settings_program values_program
 examples_hold = refl

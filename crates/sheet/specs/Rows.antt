@@ -1,33 +1,32 @@
 -- "The table": what a row's eight bytes say, or refusal 3 or 4; the rows of a table. Assumes nothing.
-use Rattle.std.specs.Prelude.{Bool, true, false, ◌&&◌, List, [], ◌∷◌, ℕ, zero, suc, ◌+◌, ◌*◌, ◌-◌, eqb, ltb, length, get_or, take, drop, ℤ, pos, negsuc}
+use Rattle.std.specs.Prelude.{Result, Ok, Err, Bool, true, false, ◌&&◌, List, [], ◌∷◌, ℕ, zero, suc, ◌+◌, ◌*◌, ◌-◌, eqb, ltb, length, get_or, take, drop, ℤ, pos, negsuc}
 use Rattle.whole.specs.Tests.{if◌then◌otherwise◌}
 use Rattle.sheet.specs.declared.Kind.{Kind}
 use Rattle.sheet.specs.declared.Kind.TheVariants.{BooleanConstant, BooleanUnknown, NaturalUnknown, IntegerUnknown, NumberConstant, Not, And, Or, Implies, Iff, Sum, Difference, Product, Choice, Greater, Equal}
-use Rattle.sheet.specs.declared.Named.{Named}
-use Rattle.sheet.specs.declared.Named.TheVariants.{Is, Unknown}
 use Rattle.sheet.specs.declared.Fields.{Fields}
-use Rattle.sheet.specs.declared.Reading.{Reading}
-use Rattle.sheet.specs.declared.Reading.TheVariants.{Read, Refused}
+use Rattle.sheet.specs.declared.Reason.{Reason}
+use Rattle.sheet.specs.declared.Reason.TheVariants.{UnknownKind, UnusedField}
 
-unfoldable pub kind_of : ℕ → Named
-kind_of k =
-    if eqb k 0x00 then Is BooleanConstant otherwise
-    if eqb k 0x01 then Is BooleanUnknown otherwise
-    if eqb k 0x02 then Is NaturalUnknown otherwise
-    if eqb k 0x03 then Is IntegerUnknown otherwise
-    if eqb k 0x04 then Is NumberConstant otherwise
-    if eqb k 0x10 then Is Not otherwise
-    if eqb k 0x11 then Is And otherwise
-    if eqb k 0x12 then Is Or otherwise
-    if eqb k 0x13 then Is Implies otherwise
-    if eqb k 0x14 then Is Iff otherwise
-    if eqb k 0x20 then Is Sum otherwise
-    if eqb k 0x21 then Is Difference otherwise
-    if eqb k 0x22 then Is Product otherwise
-    if eqb k 0x23 then Is Choice otherwise
-    if eqb k 0x30 then Is Greater otherwise
-    if eqb k 0x31 then Is Equal otherwise
-    Unknown
+-- the kind that a byte names, or refusal 3
+unfoldable pub named : ℕ → Result Kind Reason
+named k =
+    if eqb k 0x00 then Ok BooleanConstant otherwise
+    if eqb k 0x01 then Ok BooleanUnknown otherwise
+    if eqb k 0x02 then Ok NaturalUnknown otherwise
+    if eqb k 0x03 then Ok IntegerUnknown otherwise
+    if eqb k 0x04 then Ok NumberConstant otherwise
+    if eqb k 0x10 then Ok Not otherwise
+    if eqb k 0x11 then Ok And otherwise
+    if eqb k 0x12 then Ok Or otherwise
+    if eqb k 0x13 then Ok Implies otherwise
+    if eqb k 0x14 then Ok Iff otherwise
+    if eqb k 0x20 then Ok Sum otherwise
+    if eqb k 0x21 then Ok Difference otherwise
+    if eqb k 0x22 then Ok Product otherwise
+    if eqb k 0x23 then Ok Choice otherwise
+    if eqb k 0x30 then Ok Greater otherwise
+    if eqb k 0x31 then Ok Equal otherwise
+    Err UnknownKind
 
 -- the table's third column: x is 0 or 1; an unknown; a constant; or x, y, z name earlier rows of these sorts, 0 Boolean, 1 number
 pub data Uses : Type 0 where
@@ -72,20 +71,24 @@ word_at row i = get_or row i 0 * 256 + get_or row (i + 1) 0
 abbrev pub fields : List ℕ → Kind → Fields
 fields row k = record { kind = k; p = get_or row 1 0; x = word_at row 2; y = word_at row 4; z = word_at row 6 }
 
-abbrev pub used : Fields → Reading
-used f = if all_zero (unused (uses f.kind) f.p f.x f.y f.z) then Read f otherwise Refused 4
+-- a row's fields, or refusal 3 or 4
+abbrev pub Reading : Type 0
+Reading = Result Fields Reason
 
-abbrev pub named : List ℕ → Named → Reading
-named row Unknown = Refused 3
-named row (Is k) = used (fields row k)
+abbrev pub used : Fields → Reading
+used f = if all_zero (unused (uses f.kind) f.p f.x f.y f.z) then Ok f otherwise Err UnusedField
+
+abbrev pub of_kind : List ℕ → Result Kind Reason → Reading
+of_kind row (Err reason) = Err reason
+of_kind row (Ok k) = used (fields row k)
 
 unfoldable pub read_row : List ℕ → Reading
-read_row row = named row (kind_of (get_or row 0 0))
+read_row row = of_kind row (named (get_or row 0 0))
 
 -- the first n rows of a table; every row of an accepted one is read
 abbrev pub and_rows : Reading → List Fields → List Fields
-and_rows (Read f) rows = f ∷ rows
-and_rows (Refused n) rows = rows
+and_rows (Ok f) rows = f ∷ rows
+and_rows (Err reason) rows = rows
 
 unfoldable pub rows_of : (n : ℕ) → List ℕ → List Fields
 rows_of zero bytes = []

@@ -1,11 +1,10 @@
 -- What is proved of these definitions: values are those of fractions, and a table or a model in print is read back. Assumes nothing.
-use Rattle.std.specs.Prelude.{◌≡◌, Bool, true, false, List, [], ◌∷◌, ◌++◌, ℕ, ◌+◌, ◌*◌, ◌≤◌, ◌<◌, length, ℤ, pos, ◌+ℤ◌, ◌-ℤ◌, ◌*ℤ◌}
+use Rattle.std.specs.Prelude.{Ok, ◌≡◌, Bool, true, false, List, [], ◌∷◌, ◌++◌, ℕ, ◌+◌, ◌*◌, ◌≤◌, ◌<◌, length, ℤ, pos, ◌+ℤ◌, ◌-ℤ◌, ◌*ℤ◌}
 use Rattle.std.specs.Int.{◌∣◌}
 use Rattle.std.specs.Int.Signed.{lt_z}
 use Rattle.whole.specs.Tests.{if◌then◌otherwise◌, eq_z}
 use Rattle.sheet.specs.declared.Kind.TheVariants.{Sum, Difference, Product, Choice, Greater, Equal}
 use Rattle.sheet.specs.Values.{Value, fraction, truth_of, numerator, denominator, over, value_by}
-use Rattle.sheet.specs.Acceptance.{accepted}
 use Rattle.sheet.specs.Texts.{ascii, Bytes, lines_of, table_in, lines, read_lines, model, model_text, claim_in}
 
 -- v is the fraction n / d, by cross-multiplying
@@ -68,7 +67,7 @@ TableBytes = (rest : List ℕ) (n : ℕ) (table : List ℕ) → Rows n table →
 
 -- a text that is read as a model is the model's text ..
 abbrev pub AcceptedPrinted : Type 0
-AcceptedPrinted = (variables : ℕ) (text bytes : List ℕ) → claim_in variables text ≡ accepted (model bytes) → text ≡ model_text bytes
+AcceptedPrinted = (variables : ℕ) (text bytes : List ℕ) → claim_in variables text ≡ Ok (model bytes) → text ≡ model_text bytes
 
 -- every byte is 0 or 1
 abbrev pub Bits : List ℕ → Type 0
@@ -77,4 +76,4 @@ Bits (b ∷ bs) = (b ≤ 1) × Bits bs
 
 -- .. and the text of a model is read as the model
 abbrev pub PrintedAccepted : Type 0
-PrintedAccepted = (bytes : List ℕ) → Bits bytes → claim_in (length bytes) (model_text bytes) ≡ accepted (model bytes)
+PrintedAccepted = (bytes : List ℕ) → Bits bytes → claim_in (length bytes) (model_text bytes) ≡ Ok (model bytes)

@@ -1,11 +1,15 @@
-// The types of a sheet: what a row says, the record that it passes with, and the answers. The definitions over them are in
-// specs/, their laws in proofs/; no functions.
+// The types of a sheet: what a row says, the record that it passes with, and refusals. The definitions over them are in
+// specs/, their laws in proofs/.
 #![tactic(auto)]
+
+ghost use Rattle.std.specs.Prelude.{◌≡◌};
+ghost use Rattle.sheet.specs.Rows.{named};
+ghost use Rattle.sheet.specs.Acceptance.{refusal_number};
 
 use circuit::Counts;
 
 // The kinds of rows, in the order of document 01.
-#[derive(Clone, Copy)]
+#[derive(Clone, Copy, PartialEq, Eq)]
 pub enum Kind {
     BooleanConstant,
     BooleanUnknown,
@@ -25,13 +29,6 @@ pub enum Kind {
     Equal,
 }
 
-// What a kind's byte names.
-#[derive(Clone, Copy)]
-pub enum Named {
-    Is(Kind),
-    Unknown,
-}
-
 #[derive(Clone, Copy)]
 pub struct Fields {
     pub kind: Kind,
@@ -41,11 +38,12 @@ pub struct Fields {
     pub z: u16,
 }
 
-// A row's fields, or its refusal 3 or 4.
+// One of something for each row that a row's fields x, y and z name.
 #[derive(Clone, Copy)]
-pub enum Reading {
-    Read(Fields),
-    Refused(u32),
+pub struct References<T> {
+    pub x: T,
+    pub y: T,
+    pub z: T,
 }
 
 // Sort 0 is a Boolean, 1 a number. `first` is the row's first slot, from 0, `slots` their number.
@@ -68,32 +66,64 @@ pub const MISSING: Record = Record {
     slots: 0,
 };
 
-// A row passes with its record and what it counts, or stops with its refusal.
+// A row that passes: its record, and what it counts.
 #[derive(Clone, Copy)]
-pub enum Verdict {
-    Pass(Record, Counts),
-    Stop(u32),
+pub struct Passed {
+    pub row: Record,
+    pub counts: Counts,
 }
 
-// What measuring answers: what the table counts, or its refusal's number and place.
-#[derive(Clone, Copy)]
-pub enum Measured {
-    Counted(Counts),
-    Refused(u32, usize),
+// Why something is refused, by document 01's numbers.
+#[derive(Clone, Copy, PartialEq, Eq)]
+pub enum Reason {
+    WrongLength = 1,
+    TooManyRows = 2,
+    UnknownKind = 3,
+    UnusedField = 4,
+    OutOfRange = 5,
+    NotEarlier = 6,
+    WrongSort = 7,
+    LargeDenominator = 8,
+    TooWide = 9,
+    EndsInNumber = 10,
+    FewRecords = 11,
+    ShortMap = 12,
+    FewSlots = 13,
+    ValueCount = 14,
+    ValueOutside = 15,
+    ModelLength = 16,
+    NotABit = 17,
+    ShortBuffer = 18,
+    FalseClause = 19,
+    BadLine = 20,
+    BadClaim = 21,
+    NoSuchRow = 22,
 }
 
-// What a call answers that writes into lent buffers.
-#[derive(Clone, Copy)]
-pub enum Answer {
-    Done,
-    Refused(u32, usize),
+impl Reason {
+    // Its number in document 01.
+    pub fn number(self) -> u32
+        ensures { result ≡ refusal_number self }
+    {
+        self as u32
+    }
+
+    // The refusal at a place.
+    pub fn at(self, place: usize) -> Refusal
+        ensures { result ≡ record { reason = self; place = place } }
+    {
+        Refusal {
+            reason: self,
+            place,
+        }
+    }
 }
 
-// What extending answers: whether the constraint is true of the values.
-#[derive(Clone, Copy)]
-pub enum Extended {
-    Constraint(bool),
-    Refused(u32, usize),
+// A refusal: why, and at which place.
+#[derive(Clone, Copy, PartialEq, Eq)]
+pub struct Refusal {
+    pub reason: Reason,
+    pub place: usize,
 }
 
 // What a reader of lines found: how many rows, where the text behind them begins, and whether an empty line ended them.
@@ -104,17 +134,31 @@ pub struct LinesFound {
     pub ended: bool,
 }
 
-// The answer of a reader of lines; a refusal has its number and place.
-#[derive(Clone, Copy)]
-pub enum LinesRead {
-    Read(LinesFound),
-    Refused(u32, usize),
-}
+impl TryFrom<u8> for Kind {
+    type Error = Reason;
 
-// The answer of the reader of the solver's text; a model's bytes are in the buffer that was lent.
-#[derive(Clone, Copy)]
-pub enum ClaimRead {
-    Model,
-    NoneClaimed,
-    Refused(u32, usize),
+    ghost try_from_gives = { λ k kind. kind ≡ named k };
+
+    #[tactic(auto, unfolding(crate::specs::Rows::named))]
+    fn try_from(k: u8) -> Result<Self, Reason> {
+        match k {
+            0x00 => Ok(Kind::BooleanConstant),
+            0x01 => Ok(Kind::BooleanUnknown),
+            0x02 => Ok(Kind::NaturalUnknown),
+            0x03 => Ok(Kind::IntegerUnknown),
+            0x04 => Ok(Kind::NumberConstant),
+            0x10 => Ok(Kind::Not),
+            0x11 => Ok(Kind::And),
+            0x12 => Ok(Kind::Or),
+            0x13 => Ok(Kind::Implies),
+            0x14 => Ok(Kind::Iff),
+            0x20 => Ok(Kind::Sum),
+            0x21 => Ok(Kind::Difference),
+            0x22 => Ok(Kind::Product),
+            0x23 => Ok(Kind::Choice),
+            0x30 => Ok(Kind::Greater),
+            0x31 => Ok(Kind::Equal),
+            _ => Err(Reason::UnknownKind),
+        }
+    }
 }

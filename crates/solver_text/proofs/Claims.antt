@@ -1,74 +1,65 @@
 -- What the steps through a solver's text tell of its claim. Assumes nothing.
-use mathlib.Core.Path.{◌≡◌, ◌∙◌}
-use mathlib.Core.Bool.{true, false}
-use mathlib.Core.List.{List}
-use Prim.Native.Nat.{ℕ, ◌≤◌}
+use mathlib.Core.Path.{◌≡◌, refl, sym, ◌∙◌}
+use mathlib.Core.Bool.{Bool, true, false}
+use mathlib.Core.List.{List, ◌++◌}
+use Prim.Native.Nat.{ℕ, ◌+◌, ◌-◌, ◌≤◌}
 use native.Mathlib.Omega.{arith}
 use borrow.Author.Tests.{eq-eqb, ne_eqb}
 use lib.Dec.{eqb}
 use lib.ListN.{length, drop, length-drop}
-use Rattle.sheet.specs.Acceptance.{refused, accepted}
-use Rattle.sheet.specs.Texts.{ascii, none_claimed, model, satisfiable, unsatisfiable, variable_texts, model_line, signs_in, model_claim, claim_in}
-use Rattle.solver_text.specs.declared.Step.TheVariants.{Next, Wrong}
-use Rattle.solver_text.specs.Passing.{passing}
-use Rattle.solver_text.proofs.Passing.{passed, stopped, pass_then, pass_stops}
+use lib.Seq.{drop-drop}
+use Rattle.std.specs.Prelude.{Option, Some, None, Ok}
+use Rattle.std.specs.Option.{option_and_then}
+use Rattle.std.proofs.lemmas.Bool.Decides.{nat_tests}
+use Rattle.whole.specs.Tests.{if◌then◌otherwise◌}
+use Rattle.sheet.specs.declared.Reason.TheVariants.{BadClaim}
+use Rattle.sheet.specs.Acceptance.{Outcome, refused}
+use Rattle.sheet.specs.Calls.{◌giving◌}
+use Rattle.sheet.specs.Texts.{ascii, Claim, none_claimed, model, satisfiable, unsatisfiable, variable_texts, model_line, signs_in, starts, model_claim, claim_in, is_model}
+use Rattle.solver_text.specs.Passing.{behind, alone}
+use Rattle.solver_text.proofs.Passing.{starts_long, behind_then, behind_is, there, not_there}
 
--- ---- the model's line
+pub line_behind : (bs text : List ℕ) → behind (model_line bs) text ≡ option_and_then (behind (variable_texts bs 1)) (behind (ascii "v ") text)
+unfolding model_line
+line_behind bs text = behind_then (ascii "v ") (variable_texts bs 1) text
 
-module _ (bs text : List ℕ) where
-  pub line_follows : (from : ℕ) → passing (ascii "v ") 14 text ≡ Next from → (from ≡ 16) × (passing (model_line bs) 14 text ≡ passing (variable_texts bs 1) 16 text)
-  unfolding model_line
-  line_follows from e =
-      let at : from ≡ 16 = (passed (ascii "v ") 14 text from e).1 in
-      (at, rw at at (pass_then (ascii "v ") 14 text (variable_texts bs 1) from e))
+-- a text is as long as what it begins with exactly if nothing stands behind
+nothing_behind : (p text : List ℕ) → starts p text ≡ true → eqb (length text) (length p) ≡ eqb (length (drop (length p) text)) 0
+nothing_behind p text e =
+    let h = starts_long p text e in
+    rw length-drop (grind (arith, nat_tests))
 
-  pub line_missing : passing (ascii "v ") 14 text ≡ Wrong → passing (model_line bs) 14 text ≡ Wrong
-  unfolding model_line
-  line_missing e = pass_stops (ascii "v ") 14 text (variable_texts bs 1) e
+abbrev claim : Bool → Claim → ℕ → Outcome Claim
+claim b c line = if b then Ok c otherwise refused BadClaim line
 
-  pub line_wrong : passing (model_line bs) 14 text ≡ Wrong → model_claim bs (drop 14 text) ≡ refused 21 1
-  line_wrong e = rw (stopped (model_line bs) 14 text e)
-
-  length_line : 2 ≤ length (model_line bs)
-  unfolding model_line
-  length_line = omega arith
-
-  module _ (end : ℕ) (e : passing (model_line bs) 14 text ≡ Next end) where
-    pub line_alone : end ≡ length text → model_claim bs (drop 14 text) ≡ accepted (model bs)
-    line_alone h =
-        let (here, place) = passed (model_line bs) 14 text end e in
-        let same : length (drop 14 text) ≡ length (model_line bs) = length-drop 14 text ∙ omega arith in
-        rw (here, eq-eqb (length (drop 14 text)) (length (model_line bs)) same)
-
-    pub line_not_last : (end ≡ length text → ⊥) → model_claim bs (drop 14 text) ≡ refused 21 2
-    line_not_last h =
-        let (here, place) = passed (model_line bs) 14 text end e in
-        let other : (length (drop 14 text) ≡ length (model_line bs) → ⊥) = λ q. h (omega (arith, place, q, length-drop 14 text, length_line)) in
-        rw (here, ne_eqb (length (drop 14 text)) (length (model_line bs)) other)
-
--- ---- the first line
+told : (b : Bool) (c : Claim) (line : ℕ) → (claim b c line giving is_model) ≡ (if b then Ok (is_model c) otherwise refused BadClaim line)
+told true c line = refl
+told false c line = refl
 
 module _ (n : ℕ) (text : List ℕ) where
-  module _ (end : ℕ) (e : passing unsatisfiable 0 text ≡ Next end) where
-    pub none_alone : end ≡ length text → claim_in n text ≡ accepted none_claimed
-    unfolding claim_in
-    none_alone h =
-        let (here, place) = passed unsatisfiable 0 text end e in
-        let same : eqb (length text) (length unsatisfiable) ≡ true = eq-eqb (length text) (length unsatisfiable) (omega (arith, place, h)) in
-        rw (here, same)
+  pub none_there : (rest : List ℕ) → Some rest ≡ behind unsatisfiable text → (claim_in n text giving is_model) ≡ alone rest false 1
+  unfolding claim_in
+  none_there rest e =
+      let (here, what) = there unsatisfiable text rest e in
+      rw (here, what, nothing_behind unsatisfiable text here) (told (eqb (length (drop 16 text)) 0) none_claimed 1)
 
-    pub none_not_last : (end ≡ length text → ⊥) → claim_in n text ≡ refused 21 1
+  module _ (none : None ≡ behind unsatisfiable text) where
+    pub first_wrong : None ≡ behind satisfiable text → (claim_in n text giving is_model) ≡ refused BadClaim 0
     unfolding claim_in
-    none_not_last h =
-        let (here, place) = passed unsatisfiable 0 text end e in
-        let other : eqb (length text) (length unsatisfiable) ≡ false = ne_eqb (length text) (length unsatisfiable) (λ q. h (omega (arith, place, q))) in
-        rw (here, other)
+    first_wrong e = rw (not_there unsatisfiable text none, not_there satisfiable text e)
 
-  module _ (e : passing unsatisfiable 0 text ≡ Wrong) where
-    pub first_wrong : passing satisfiable 0 text ≡ Wrong → claim_in n text ≡ refused 21 0
-    unfolding claim_in
-    first_wrong q = rw (stopped unsatisfiable 0 text e, stopped satisfiable 0 text q)
+    module _ (line : List ℕ) (some : Some line ≡ behind satisfiable text) where
+      some_claimed : claim_in n text ≡ model_claim (signs_in n 1 (drop 2 line)) line
+      unfolding claim_in
+      some_claimed =
+          let (here, what) = there satisfiable text line some in
+          rw (not_there unsatisfiable text none, here, what, drop-drop)
 
-    pub some_claimed : (end : ℕ) → passing satisfiable 0 text ≡ Next end → claim_in n text ≡ model_claim (signs_in n 1 (drop 16 text)) (drop 14 text)
-    unfolding claim_in
-    some_claimed end q = rw (stopped unsatisfiable 0 text e, (passed satisfiable 0 text end q).0)
+      pub line_wrong : None ≡ behind (model_line (signs_in n 1 (drop 2 line))) line → (claim_in n text giving is_model) ≡ refused BadClaim 1
+      line_wrong e = rw (some_claimed, not_there (model_line (signs_in n 1 (drop 2 line))) line e)
+
+      pub line_there : (rest : List ℕ) → Some rest ≡ behind (model_line (signs_in n 1 (drop 2 line))) line → (claim_in n text giving is_model) ≡ alone rest true 2
+      line_there rest e =
+          let bs = signs_in n 1 (drop 2 line) in
+          let (here, what) = there (model_line bs) line rest e in
+          rw (some_claimed, here, what, nothing_behind (model_line bs) line here) (told (eqb (length (drop (length (model_line bs)) line)) 0) (model bs) 2)

@@ -2,17 +2,19 @@
 use mathlib.Core.Path.{◌≡◌, refl, sym, ap, ◌∙◌}
 use mathlib.Core.Bool.{Bool, true, false, ◌&&◌, false≢true, and_assoc, and-eq-true_iff}
 use mathlib.Core.List.{List, [], ◌∷◌, ◌++◌}
-use Prim.Native.Nat.{ℕ, ◌+◌, ◌≤◌, ◌<◌}
-use native.Mathlib.Nat.{add-zero}
+use Prim.Native.Nat.{ℕ, ◌+◌, ◌≤◌}
 use native.Mathlib.Omega.{arith}
-use borrow.Author.Tests.{eq-eqb, ne_eqb}
+use denote.Ref.{Bor}
 use lib.Dec.{eqb}
-use lib.ListN.{length, get_or, drop, length-append, drop_of_length-le}
-use lib.Seq.{drop-cons, drop-drop}
+use lib.ListN.{length, take, drop, length-append}
+use lib.Seq.{drop-drop}
+use Rattle.std.specs.Prelude.{Option, Some, None, MatchOption, nat_eq}
+use Rattle.std.specs.Option.{option_copied, option_and_then}
+use Rattle.std.specs.Cmp.Lexicographic.{pointwise}
+use Rattle.std.proofs.lemmas.Bool.Decides.{nat_tests}
 use Rattle.whole.specs.Tests.{if◌then◌otherwise◌}
 use Rattle.sheet.specs.Texts.{starts}
-use Rattle.solver_text.specs.declared.Step.TheVariants.{Next, Wrong}
-use Rattle.solver_text.specs.Passing.{passing}
+use Rattle.solver_text.specs.Passing.{behind}
 
 -- p, then q
 pub starts-append : (p q text : List ℕ) → starts (p ++ q) text ≡ (starts p text && starts q (drop (length p) text))
@@ -29,62 +31,51 @@ starts_long [] text e = omega arith
 starts_long (a ∷ p) [] e = absurd (false≢true e)
 starts_long (a ∷ p) (b ∷ text) e = omega (arith, starts_long p text ((and-eq-true_iff (eqb a b) (starts p text)).0 e).1)
 
--- ---- what a step tells
+-- the library's test of a front
+pub swapped : (a b : ℕ) → nat_eq b a ≡ eqb a b
+swapped a b = grind (arith, nat_tests)
 
-module _ (part : List ℕ) (at : ℕ) (text : List ℕ) where
-  pub passes : starts part (drop at text) ≡ true → passing part at text ≡ Next (at + length part)
-  unfolding passing
-  passes e = rw e
+fronts : (p text : List ℕ) → pointwise nat_eq (take (length p) text) p ≡ starts p text
+unfolding starts
+fronts [] text = refl
+fronts (a ∷ p) [] = refl
+fronts (a ∷ p) (b ∷ text) = rw (swapped a b, fronts p text)
 
-  pub stops : starts part (drop at text) ≡ false → passing part at text ≡ Wrong
-  unfolding passing
-  stops e = rw e
+-- `strip_prefix` answers what stands behind a part
+pub stripped : (p text : List ℕ) (r : Option (Bor (List ℕ)))
+    → MatchOption r (pointwise nat_eq (take (length p) text) p ≡ false)
+    (λ x. (pointwise nat_eq (take (length p) text) p ≡ true) × (x.now ≡ drop (length p) text) × (length x.now + length p ≡ length text))
+    → option_copied r ≡ behind p text
+unfolding behind
+stripped p text None h = rw (← fronts p text, h)
+stripped p text (Some x) h = rw (← fronts p text, h.0, h.1)
 
-  pub passed : (end : ℕ) → passing part at text ≡ Next end → (starts part (drop at text) ≡ true) × (end ≡ at + length part)
-  unfolding passing
-  passed end e = by (starts part (drop at text)) refl e
+-- two parts, one behind the other
+pub behind_then : (p q text : List ℕ) → behind (p ++ q) text ≡ option_and_then (behind q) (behind p text)
+unfolding behind
+behind_then p q text = by (starts p text) refl
+  where
+    by : (b : Bool) → starts p text ≡ b → behind (p ++ q) text ≡ option_and_then (behind q) (behind p text)
+    by true e = rw (starts-append p q text, e, length-append, drop-drop)
+    by false e = rw (starts-append p q text, e)
+
+-- what a step tells
+module _ (p text : List ℕ) where
+  pub there : (rest : List ℕ) → Some rest ≡ behind p text → (starts p text ≡ true) × (rest ≡ drop (length p) text)
+  unfolding behind
+  there rest e = by (starts p text) refl e
     where
-      by : (b : Bool) → starts part (drop at text) ≡ b → (if b then Next (at + length part) otherwise Wrong) ≡ Next end
-          → (starts part (drop at text) ≡ true) × (end ≡ at + length part)
+      by : (b : Bool) → starts p text ≡ b → Some rest ≡ (if b then Some (drop (length p) text) otherwise None) → (starts p text ≡ true) × (rest ≡ drop (length p) text)
       by true q e = (q, cc)
-      by false q e = let z : ◌≡◌ {A = ℕ} 0 1 = cc in absurd (omega arith)
+      by false q e = absurd cc
 
-  pub stopped : passing part at text ≡ Wrong → starts part (drop at text) ≡ false
-  unfolding passing
-  stopped e = by (starts part (drop at text)) refl e
+  pub not_there : None ≡ behind p text → starts p text ≡ false
+  unfolding behind
+  not_there e = by (starts p text) refl e
     where
-      by : (b : Bool) → starts part (drop at text) ≡ b → (if b then Next (at + length part) otherwise Wrong) ≡ Wrong → starts part (drop at text) ≡ false
-      by true q e = let z : ◌≡◌ {A = ℕ} 0 1 = cc in absurd (omega arith)
+      by : (b : Bool) → starts p text ≡ b → None ≡ (if b then Some (drop (length p) text) otherwise None) → starts p text ≡ false
+      by true q e = absurd cc
       by false q e = q
 
-  -- ---- another part behind it
-
-  pub pass_then : (rest : List ℕ) (end : ℕ) → passing part at text ≡ Next end → passing (part ++ rest) at text ≡ passing rest end text
-  unfolding passing
-  pass_then rest end e =
-      let (here, place) = passed end e in
-      let n : at + length (part ++ rest) ≡ at + length part + length rest = rw length-append (omega arith) in
-      rw (starts-append part rest (drop at text), here, drop-drop (length part) at text, place, n)
-
-  pub pass_stops : (rest : List ℕ) → passing part at text ≡ Wrong → passing (part ++ rest) at text ≡ Wrong
-  unfolding passing
-  pass_stops rest e = rw (starts-append part rest (drop at text), stopped e)
-
--- nothing is passed
-pub pass_none : (at : ℕ) (text : List ℕ) → passing [] at text ≡ Next at
-unfolding passing starts
-pass_none at text = rw add-zero
-
--- one byte
-module _ (b at : ℕ) (text : List ℕ) where
-  pub byte_missing : length text ≤ at → passing (b ∷ []) at text ≡ Wrong
-  unfolding passing starts
-  byte_missing h = rw (drop_of_length-le text {i = at} h)
-
-  pub byte_other : at < length text → (get_or text at 0 ≡ b → ⊥) → passing (b ∷ []) at text ≡ Wrong
-  unfolding passing starts
-  byte_other h e = rw (drop-cons text at 0 h, ne_eqb b (get_or text at 0) (λ q. e (sym q)))
-
-  pub byte_there : at < length text → get_or text at 0 ≡ b → passing (b ∷ []) at text ≡ Next (at + 1)
-  unfolding passing starts
-  byte_there h e = rw (drop-cons text at 0 h, eq-eqb b (get_or text at 0) (sym e))
+  pub behind_is : (rest : List ℕ) → Some rest ≡ behind p text → rest ≡ drop (length p) text
+  behind_is rest e = (there rest e).1

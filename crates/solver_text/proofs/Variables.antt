@@ -1,116 +1,135 @@
 -- The variables of a model's line, one after the other. Assumes nothing.
 use mathlib.Core.Path.{◌≡◌, refl, sym, ◌∙◌}
-use mathlib.Core.Bool.{Bool, true, false, false≢true, and-eq-true_iff}
-use mathlib.Core.List.{List, [], ◌∷◌, ◌++◌}
+use mathlib.Core.Bool.{Bool, true, false, not, and-eq-true_iff}
+use mathlib.Core.List.{List, [], ◌∷◌, ◌++◌, append-nil, append_assoc}
 use Prim.Native.Nat.{ℕ, zero, suc, ◌+◌, ◌-◌, ◌≤◌, ◌<◌}
-use native.Mathlib.Decide.{dec_lt}
 use native.Mathlib.Omega.{arith}
-use borrow.Author.Tests.{eqb-true, eq-eqb, ne_eqb}
+use denote.Ref.{Bor}
+use mir.Val.{bool_byte}
 use lib.Dec.{eqb}
-use lib.ListN.{length, get_or, drop, length-append, length-drop, drop_of_length-le}
-use lib.Seq.{drop-cons, drop-drop}
+use lib.ListN.{length, set, take, drop, length-append, length-set}
+use lib.Seq.{take_all}
+use Rattle.std.specs.Prelude.{Option, Some, None, unwrap_or, nat_eq}
+use Rattle.std.specs.Option.{option_copied}
+use Rattle.std.specs.List.{starts_with}
+use Rattle.std.proofs.lemmas.Grind.{common_steps}
+use Rattle.frame.proofs.Frames.{rest_all}
 use Rattle.whole.specs.Tests.{if◌then◌otherwise◌}
 use Rattle.sheet.specs.Texts.{ascii, decimal, variable_text, variable_texts, sign_at, signs_in, starts}
-use Rattle.solver_text.specs.Passing.{passing}
-use Rattle.solver_text.proofs.Passing.{starts-append, starts_long, pass_then, byte_there}
+use Rattle.solver_text.specs.Passing.{behind}
+use Rattle.solver_text.proofs.Passing.{starts-append, starts_long, swapped, behind_then, behind_is}
 
--- ---- the sign at a place
+-- the sign in front of a text
+pub sign_tested : (text : List ℕ) → bool_byte (not (starts_with nat_eq text (45 ∷ []))) ≡ sign_at text
+unfolding sign_at
+sign_tested [] = refl
+sign_tested (b ∷ text) = by (eqb b 45) refl
+  where
+    by : (t : Bool) → eqb b 45 ≡ t → bool_byte (not (starts_with nat_eq (b ∷ text) (45 ∷ []))) ≡ sign_at (b ∷ text)
+    by true e = rw (swapped b 45, e)
+    by false e = rw (swapped b 45, e)
 
-module _ (text : List ℕ) (at : ℕ) where
-  pub sign_none : length text ≤ at → sign_at (drop at text) ≡ 1
-  unfolding sign_at
-  sign_none h = rw (drop_of_length-le text {i = at} h)
+-- a variable stands where its number stands behind the sign, if there is one
+unsigned : (text : List ℕ) (k : ℕ) → behind (variable_text (sign_at text) k) text ≡ behind (decimal k ++ 32 ∷ []) (unwrap_or (behind (45 ∷ []) text) text)
+unfolding sign_at variable_text behind starts
+unsigned [] k = refl
+unsigned (b ∷ text) k = by (eqb b 45) refl
+  where
+    by : (t : Bool) → eqb b 45 ≡ t → behind (variable_text (sign_at (b ∷ text)) k) (b ∷ text) ≡ behind (decimal k ++ 32 ∷ []) (unwrap_or (behind (45 ∷ []) (b ∷ text)) (b ∷ text))
+    by true e =
+        let minus : behind (45 ∷ []) (b ∷ text) ≡ Some text = rw (swapped b 45, e) in
+        rw (e, behind_then (45 ∷ []) (decimal k ++ 32 ∷ []) (b ∷ text), minus)
+    by false e =
+        let plain : behind (45 ∷ []) (b ∷ text) ≡ None = rw (swapped b 45, e) in
+        rw (e, plain)
 
-  pub sign_minus : at < length text → get_or text at 0 ≡ 45 → sign_at (drop at text) ≡ 0
-  unfolding sign_at
-  sign_minus h e = rw (drop-cons text at 0 h, eq-eqb (get_or text at 0) 45 e)
+pub variable_behind : (r : Option (Bor (List ℕ))) (t : Bor (List ℕ)) (k : ℕ) → option_copied r ≡ behind (45 ∷ []) t.now
+    → behind (decimal k ++ 32 ∷ []) (unwrap_or r t).now ≡ behind (variable_text (sign_at t.now) k) t.now
+variable_behind None t k e = rw (unsigned t.now k, ← e)
+variable_behind (Some x) t k e = rw (unsigned t.now k, ← e)
 
-  pub sign_other : at < length text → (get_or text at 0 ≡ 45 → ⊥) → sign_at (drop at text) ≡ 1
-  unfolding sign_at
-  sign_other h e = rw (drop-cons text at 0 h, ne_eqb (get_or text at 0) 45 e)
+-- how long a variable is
+pub length_variable : (sign k : ℕ) → length (variable_text sign k) ≡ bool_byte (nat_eq sign 0) + length (decimal k) + 1
+unfolding variable_text
+length_variable sign k = by (eqb sign 0)
+  where
+    by : (t : Bool) → length ((if t then ascii "-" otherwise []) ++ decimal k ++ 32 ∷ []) ≡ bool_byte t + length (decimal k) + 1
+    by true = rw (length-append (decimal k) (32 ∷ [])) (omega arith)
+    by false = rw (length-append (decimal k) (32 ∷ [])) (omega arith)
 
-  -- 0 tells of a minus
-  pub minus_there : sign_at (drop at text) ≡ 0 → (at < length text) × (get_or text at 0 ≡ 45)
-  minus_there e = by (dec_lt at (length text)) (eqb (get_or text at 0) 45) refl
-    where
-      by : Dec (at < length text) → (b : Bool) → eqb (get_or text at 0) 45 ≡ b → (at < length text) × (get_or text at 0 ≡ 45)
-      by (no h) b q = absurd (omega (arith, e, sign_none (omega arith)))
-      by (yes h) true q = (h, eqb-true (get_or text at 0) 45 q)
-      by (yes h) false q =
-          let one : sign_at (drop at text) ≡ 1 = sign_other h (λ m. false≢true (sym q ∙ eq-eqb (get_or text at 0) 45 m)) in
-          absurd (omega (arith, e, one))
+-- ---- of n variables those from k on are left of the line
+module _ (n k : ℕ) (text : List ℕ) where
+  abbrev pub signs_from : List ℕ
+  signs_from = signs_in (n + 1 - k) k text
 
-  -- ---- a variable, without its sign
+  abbrev pub line_from : List ℕ
+  line_from = variable_texts signs_from k
 
-  pub variable_minus : (k : ℕ) → sign_at (drop at text) ≡ 0 → passing (variable_text (sign_at (drop at text)) k) at text ≡ passing (decimal k ++ 32 ∷ []) (at + 1) text
-  unfolding variable_text
-  variable_minus k e =
-      let (h, m) = minus_there e in
-      rw e (pass_then (45 ∷ []) at text (decimal k ++ 32 ∷ []) (at + 1) (byte_there 45 at text h m))
+  abbrev pub here : List ℕ
+  here = variable_text (sign_at text) k
 
-  pub variable_plain : (k : ℕ) → (sign_at (drop at text) ≡ 0 → ⊥) → passing (variable_text (sign_at (drop at text)) k) at text ≡ passing (decimal k ++ 32 ∷ []) at text
-  unfolding variable_text
-  variable_plain k e = rw (ne_eqb (sign_at (drop at text)) 0 e)
-
--- ---- i variables are passed, and the rest of the line begins at a place
-
-module _ (text : List ℕ) (variables i at : ℕ) where
-  abbrev pub variable_here : List ℕ
-  variable_here = variable_text (sign_at (drop at text)) (i + 1)
-
-  abbrev pub line_here : List ℕ
-  line_here = variable_texts (signs_in (variables - i) (i + 1) (drop at text)) (i + 1)
-
-pub signs_more : (text : List ℕ) (variables i at : ℕ) → i < variables
-    → signs_in (variables - i) (i + 1) (drop at text) ≡ sign_at (drop at text) ∷ signs_in (variables - (i + 1)) (i + 1 + 1) (drop (at + length (variable_here text variables i at)) text)
+pub signs_more : (n k : ℕ) (text : List ℕ) → k ≤ n → signs_from n k text ≡ sign_at text ∷ signs_from n (k + 1) (drop (length (here n k text)) text)
 unfolding signs_in
-signs_more text variables i at h =
-    let n : variables - i ≡ suc (variables - (i + 1)) = omega arith in
-    rw (n, drop-drop (length (variable_here text variables i at)) at text)
+signs_more n k text h =
+    let m : n + 1 - k ≡ suc (n + 1 - (k + 1)) = omega arith in
+    rw m
 
-pub signs_end : (text : List ℕ) (variables i at : ℕ) → variables ≤ i → signs_in (variables - i) (i + 1) (drop at text) ≡ []
+pub signs_end : (n k : ℕ) (text : List ℕ) → n < k → signs_from n k text ≡ []
 unfolding signs_in
-signs_end text variables i at h =
-    let n : variables - i ≡ zero = omega arith in
-    rw n
+signs_end n k text h =
+    let m : n + 1 - k ≡ zero = omega arith in
+    rw m
 
-pub line_more : (text : List ℕ) (variables i at : ℕ) → i < variables
-    → line_here text variables i at ≡ variable_here text variables i at ++ line_here text variables (i + 1) (at + length (variable_here text variables i at))
+pub line_end : (n k : ℕ) (text : List ℕ) → n < k → line_from n k text ≡ 48 ∷ 10 ∷ []
 unfolding variable_texts
-line_more text variables i at h = rw (signs_more text variables i at h)
+line_end n k text h = rw (signs_end n k text h)
 
-pub line_end : (text : List ℕ) (variables i at : ℕ) → variables ≤ i → line_here text variables i at ≡ 48 ∷ 10 ∷ []
-unfolding variable_texts
-line_end text variables i at h = rw (signs_end text variables i at h)
+module _ (n k : ℕ) (text : List ℕ) (h : k ≤ n) where
+  line_more : line_from n k text ≡ here n k text ++ line_from n (k + 1) (drop (length (here n k text)) text)
+  unfolding variable_texts
+  line_more = rw (signs_more n k text h)
 
--- ---- how long a variable is
+  pub line_goes : (rest : List ℕ) → Some rest ≡ behind (here n k text) text → behind (line_from n (k + 1) rest) rest ≡ behind (line_from n k text) text
+  line_goes rest e =
+      rw (line_more, behind_then (here n k text) (line_from n (k + 1) (drop (length (here n k text)) text)) text, ← e, behind_is (here n k text) text rest e)
 
-pub length_minus : (b k : ℕ) → b ≡ 0 → length (variable_text b k) ≡ length (decimal k) + 2
-unfolding variable_text
-length_minus b k e = rw (e, length-append (decimal k) (32 ∷ [])) (omega arith)
+  pub line_stops : None ≡ behind (here n k text) text → None ≡ behind (line_from n k text) text
+  line_stops e = rw (line_more, behind_then (here n k text) (line_from n (k + 1) (drop (length (here n k text)) text)) text, ← e)
 
-pub length_plain : (b k : ℕ) → (b ≡ 0 → ⊥) → length (variable_text b k) ≡ length (decimal k) + 1
-unfolding variable_text
-length_plain b k e = rw (ne_eqb b 0 e) (length-append (decimal k) (32 ∷ []))
+  -- of a right line
+  module _ (stands : starts (line_from n k text) text ≡ true) where
+    parts : (starts (here n k text) text ≡ true) × (starts (line_from n (k + 1) (drop (length (here n k text)) text)) (drop (length (here n k text)) text) ≡ true)
+    parts =
+        let rest = line_from n (k + 1) (drop (length (here n k text)) text) in
+        (and-eq-true_iff (starts (here n k text) text) (starts rest (drop (length (here n k text)) text))).0
+        (sym (starts-append (here n k text) rest text) ∙ rw (← line_more) stands)
 
-length_some : (b k : ℕ) → 1 ≤ length (variable_text b k)
-unfolding variable_text
-length_some b k = rw (length-append ((if eqb b 0 then ascii "-" otherwise []) ++ decimal k) (32 ∷ [])) (omega arith)
+    pub stands_within : length (here n k text) ≤ length text
+    stands_within = starts_long (here n k text) text parts.0
 
--- the rest of a right line stands behind a variable, within the text
-module _ (text : List ℕ) (variables i at : ℕ) (h : i < variables) (stands : starts (line_here text variables i at) (drop at text) ≡ true) where
-  abbrev here : List ℕ
-  here = variable_here text variables i at
+    pub stands_next : starts (line_from n (k + 1) (drop (length (here n k text)) text)) (drop (length (here n k text)) text) ≡ true
+    stands_next = parts.1
 
-  abbrev rest : List ℕ
-  rest = line_here text variables (i + 1) (at + length here)
+-- ---- the signs of a right line are written, one by one: what is left of the line stands in the text, and its signs follow those written
+pub record Left (all model : List ℕ) (i : ℕ) (text : List ℕ) : Type 0 where
+  pub stands : starts (line_from (length model) (i + 1) text) text ≡ true
+  pub signs : take i model ++ signs_from (length model) (i + 1) text ≡ all
 
-  parts : (starts here (drop at text) ≡ true) × (starts rest (drop (length here) (drop at text)) ≡ true)
-  parts = (and-eq-true_iff (starts here (drop at text)) (starts rest (drop (length here) (drop at text)))).0
-      (sym (starts-append here rest (drop at text)) ∙ rw (← line_more text variables i at h) stands)
+module _ {all model : List ℕ} {i : ℕ} {text : List ℕ} (l : Left all model i text) where
+  module _ {sign size : ℕ} (h : i < length model) (e : sign ≡ sign_at text) (f : size ≡ length (variable_text sign (i + 1))) where
+    pub left_within : size ≤ length text
+    left_within = rw (f, e) (stands_within (length model) (i + 1) text (omega arith) l.stands)
 
-  pub stands_next : starts rest (drop (at + length here) text) ≡ true
-  stands_next = rw (drop-drop (length here) at text) at parts.1
+    pub left_step : Left all (set model i sign) (i + 1) (take (length text - size) (drop size text))
+    left_step =
+        let k : i + 1 ≤ length model = omega arith in
+        let one : take (i + 1) (set model i sign) ≡ take i model ++ sign ∷ [] = grind (arith, common_steps) in
+        let more = signs_more (length model) (i + 1) text k in
+        let rest = signs_from (length model) (i + 1 + 1) (drop size text) in
+        rw (rest_all size text) (record {
+          stands = rw (length-set, f, e) (stands_next (length model) (i + 1) text k l.stands);
+          signs = rw (one, length-set, append_assoc (take i model) (sign ∷ []) rest) (rw (f, e, ← more) l.signs);
+        })
 
-  pub stands_within : at + length here ≤ length text
-  stands_within = omega (arith, starts_long here (drop at text) parts.0, length-drop at text, length_some (sign_at (drop at text)) (i + 1))
+  pub left_none : length model ≤ i → model ≡ all
+  left_none h = sym (append-nil model) ∙ (rw (signs_end (length model) (i + 1) text (omega arith), take_all i model h) at l.signs)

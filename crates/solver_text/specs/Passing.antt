@@ -1,9 +1,12 @@
--- A part of a text, passed from a place on. Assumes nothing.
-use Rattle.std.specs.Prelude.{List, ℕ, ◌+◌, length, drop}
+-- What stands behind a part that a text begins with, and that nothing may. Assumes nothing.
+use Rattle.std.specs.Prelude.{Option, Some, None, Ok, Bool, List, ℕ, eqb, length, drop}
 use Rattle.whole.specs.Tests.{if◌then◌otherwise◌}
+use Rattle.sheet.specs.declared.Reason.TheVariants.{BadClaim}
+use Rattle.sheet.specs.Acceptance.{Outcome, refused}
 use Rattle.sheet.specs.Texts.{starts}
-use Rattle.solver_text.specs.declared.Step.{Step}
-use Rattle.solver_text.specs.declared.Step.TheVariants.{Next, Wrong}
 
-unfoldable pub passing : (part : List ℕ) (at : ℕ) (text : List ℕ) → Step
-passing part at text = if starts part (drop at text) then Next (at + length part) otherwise Wrong
+unfoldable pub behind : (part text : List ℕ) → Option (List ℕ)
+behind part text = if starts part text then Some (drop (length part) text) otherwise None
+
+abbrev pub alone : (rest : List ℕ) (claimed : Bool) (line : ℕ) → Outcome Bool
+alone rest claimed line = if eqb (length rest) 0 then Ok claimed otherwise refused BadClaim line

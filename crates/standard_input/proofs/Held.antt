@@ -1,18 +1,19 @@
 -- What is there after one read more, where a reader's bytes are known. Assumes nothing.
-use Rattle.std.proofs.Common.{◌≡◌, ℕ, ◌+◌, ◌-◌, ◌<◌, ◌≤◌, List, [], ◌++◌, length, take, drop, Bool, true, false, ℤ, pos, negsuc, Result, Ok, Err, IfOk, IfErr, refl, sym, ap, subst, ◌∙◌, arith, length-take-le}
-use borrow.Author.Tests.{eqb-true, eqb-false, ltb-true}
+use Rattle.std.proofs.Common.{◌≡◌, ℕ, ◌+◌, ◌-◌, ◌<◌, ◌≤◌, List, [], ◌++◌, length, take, drop, Bool, true, false, Result, Ok, Err, IfOk, refl, sym, ap, subst, ◌∙◌, arith, length-take-le}
+use borrow.Author.Tests.{eqb-true, eqb-false}
 use borrow.Rule.Slice.PartMut.{put_mid, post_of, take_put}
 use lib.Dec.{eqb}
 use lib.Seq.{take-append-add, take-append-le}
-use lib.Signed.{lt_z}
+use Rattle.std.specs.IoError.{error_kind}
+use Rattle.std_io.specs.declared.io.error.Error.{Error}
 use Rattle.std.specs.declared.option.Option.{Option}
 use Rattle.std.specs.Io.{ReadsAtMost}
 use Rattle.std.specs.Io.KnownBytes.{Consumes, Keeps, IsAtEnd, ReadConsumes}
 use Rattle.std.proofs.KnownBytes.{Consumes-trans, Consumes-kept}
-use Rattle.whole.specs.Tests.{if◌then◌otherwise◌, eq_z}
+use Rattle.whole.specs.Tests.{if◌then◌otherwise◌}
 use Rattle.standard_input.specs.declared.Progress.{Progress}
 use Rattle.standard_input.specs.declared.Progress.TheVariants.{Going, Whole, Failed}
-use Rattle.standard_input.specs.Reads.{after_read, Holds}
+use Rattle.standard_input.specs.Reads.{told, interrupted, after_read, Holds}
 use Rattle.std.proofs.lemmas.Grind.{common_steps}
 use Rattle.standard_input.proofs.Laws.{of_test}
 
@@ -26,26 +27,24 @@ there at n k xs ys within few =
 pub long_as_before : (at : ℕ) (xs ys : List ℕ) → at ≤ length xs → length ys ≡ length xs - at → length (put_mid at (length xs - at) xs ys) ≡ length xs
 long_as_before at xs ys within long = grind (arith, common_steps)
 
-pub held_on : {E : Type 0} (at patience : ℕ) (got error : ℤ) (answer : Result ℕ E) (known a b : Option (List ℕ)) (xs ys : List ℕ)
-    → at ≤ length xs → length ys ≡ length xs - at → IfOk answer (λ n. got ≡ pos n) → IfErr answer (λ e. got ≡ negsuc 0)
-    → ReadsAtMost answer ys → ReadConsumes a b answer ys → Consumes known a (take at xs)
-    → Holds (after_read at patience (length xs) got error) known b (put_mid at (length xs - at) xs ys)
+pub held_on : (at patience : ℕ) (answer : Result ℕ Error) (known a b : Option (List ℕ)) (xs ys : List ℕ)
+    → at ≤ length xs → length ys ≡ length xs - at → ReadsAtMost answer ys → ReadConsumes a b answer ys → Consumes known a (take at xs)
+    → Holds (after_read at patience (length xs) (told answer)) known b (put_mid at (length xs - at) xs ys)
 unfolding after_read
-held_on at patience got error (Ok n) known a b xs ys within long ok _ fits read before =
+held_on at patience (Ok n) known a b xs ys within long fits read before =
     let new = put_mid at (length xs - at) xs ys in
     let P = λ (p : Progress). Holds p known b new in
     let size = long_as_before at xs ys within long in
     let now : Consumes known b (take (at + n) new) = rw (there at n (length xs - at) xs ys within fits.0) (Consumes-trans known a b _ _ before read.0) in
-    rw ok (of_test P (lt_z (pos n) (pos 0)) (λ e. absurd (omega (arith, ltb-true n 0 e)))
-    (λ _. of_test P (eqb n 0)
+    of_test P (eqb n 0)
     (λ e. let z = eqb-true n 0 e in
     let here : at + n ≡ at = omega (arith, z) in
     (subst (λ i. Consumes known b (take i new)) here now, λ room. read.1 z (omega (arith, long, size, room))))
     (λ _. of_test P (eqb (at + n) (length xs))
     (λ e. (now, λ room. absurd (omega (arith, eqb-true (at + n) (length xs) e, size, room))))
-    (λ _. now))))
-held_on at patience got error (Err e) known a b xs ys within long _ failed _ read before =
+    (λ _. now))
+held_on at patience (Err e) known a b xs ys within long _ read before =
     let new = put_mid at (length xs - at) xs ys in
     let P = λ (p : Progress). Holds p known b new in
     let now : Consumes known b (take at new) = rw (take_put at (length xs - at) xs ys within) (Consumes-kept known a b _ before read) in
-    rw failed (of_test P (eq_z error (pos 4)) (λ _. of_test P (eqb patience 0) (λ _. tt) (λ _. now)) (λ _. tt))
+    of_test P (interrupted (error_kind e)) (λ _. of_test P (eqb patience 0) (λ _. tt) (λ _. now)) (λ _. tt)

@@ -1,34 +1,39 @@
 -- What reads come to, one after the other, by what each of them answered. Assumes nothing.
-use Rattle.std.specs.Prelude.{◌≡◌, Bool, true, false, List, [], ◌∷◌, ◌++◌, ℕ, ◌+◌, ◌-◌, ◌<◌, ◌≤◌, ⊤, eqb, length, take, ℤ, pos, negsuc, nat_abs}
-use Rattle.std.specs.Int.Signed.{lt_z}
+use Rattle.std.specs.Prelude.{◌≡◌, Bool, true, false, List, [], ◌∷◌, ◌++◌, ℕ, ◌+◌, ◌-◌, ◌<◌, ◌≤◌, ⊤, eqb, length, take, Result, Ok, Err, IfOk}
 use Rattle.std.specs.declared.option.Option.{Option}
 use Rattle.std.specs.Io.KnownBytes.{Consumes, IsAtEnd}
-use Rattle.whole.specs.Tests.{if◌then◌otherwise◌, eq_z}
+use Rattle.std.specs.IoError.{error_kind}
+use Rattle.std_io.specs.declared.io.error.Error.{Error}
+use Rattle.std_io.specs.declared.io.kind.ErrorKind.{ErrorKind}
+use Rattle.std_io.specs.declared.io.kind.ErrorKind.TheVariants.{Interrupted}
+use Rattle.whole.specs.Tests.{if◌then◌otherwise◌}
 use Rattle.standard_input.specs.declared.Progress.{Progress}
 use Rattle.standard_input.specs.declared.Progress.TheVariants.{Going, Whole, Failed}
 
--- what a read that is handed n bytes may answer: -1, or how many bytes it moved, at most n
-abbrev pub Moved : ℕ → ℤ → Type 0
-Moved n (pos k) = k ≤ n
-Moved n (negsuc k) = k ≡ 0
+-- what a read answered: how many bytes came, or the kind of its error
+abbrev pub Read : Type 0
+Read = Result ℕ ErrorKind
 
--- `at` bytes of `size` were there before; a negative answer is a failed read, and error 4 (EINTR) an interrupted one; 0 is the end
-unfoldable pub after_read : (at patience size : ℕ) (got error : ℤ) → Progress
-after_read at patience size got error =
-    if lt_z got (pos 0) then (if eq_z error (pos 4) then if eqb patience 0 then Failed otherwise Going at (patience - 1) otherwise Failed) otherwise
-    if eqb (nat_abs got) 0 then Whole at otherwise
-    if eqb (at + nat_abs got) size then Whole (at + nat_abs got) otherwise
-    Going (at + nat_abs got) patience
+abbrev pub told : Result ℕ Error → Read
+told (Ok n) = Ok n
+told (Err e) = Err (error_kind e)
 
--- what a read answered, and what it left in errno
-pub record Read : Type 0 where
-  pub got : ℤ
-  pub error : ℤ
+abbrev pub interrupted : ErrorKind → Bool
+interrupted Interrupted = true
+interrupted _ = false
+
+-- `at` bytes of `size` were there before; 0 is the end, an interrupted read is tried again, and any other error ends all
+unfoldable pub after_read : (at patience size : ℕ) → Read → Progress
+after_read at patience size (Ok n) =
+    if eqb n 0 then Whole at otherwise
+    if eqb (at + n) size then Whole (at + n) otherwise
+    Going (at + n) patience
+after_read at patience size (Err kind) = if interrupted kind then (if eqb patience 0 then Failed otherwise Going at (patience - 1)) otherwise Failed
 
 -- reads one after the other; none follows the end or a failure
 unfoldable pub after : List Read → (size : ℕ) → Progress → Progress
 after [] size progress = progress
-after (r ∷ rs) size (Going at patience) = after rs size (after_read at patience size r.got r.error)
+after (r ∷ rs) size (Going at patience) = after rs size (after_read at patience size r)
 after (r ∷ rs) size (Whole n) = Whole n
 after (r ∷ rs) size Failed = Failed
 
@@ -44,8 +49,8 @@ pub record Reached (size : ℕ) (progress : Progress) : Type 0 where
 -- one read more, which moved no more than it was handed
 pub record OneMore (at patience size : ℕ) (progress : Progress) : Type 0 where
   pub read : Read
-  pub come : after_read at patience size read.got read.error ≡ progress
-  pub moved : Moved (size - at) read.got
+  pub come : after_read at patience size read ≡ progress
+  pub moved : IfOk read (λ n. n ≤ size - at)
 
 -- all is there, within so many bytes, or a read failed
 abbrev pub Over : (size : ℕ) → Progress → Type 0
@@ -72,12 +77,10 @@ IsWhole read input = read ≡ Whole (length input)
 -- a read that failed and was not interrupted is never taken for the end of the input, whatever was read before and whatever would be after it
 abbrev pub FailedIsNoInput : Type 0
 FailedIsNoInput =
-    (size : ℕ) (before : List Read) (r : Read) (later : List Read) (at patience : ℕ)
-    → after before size begun ≡ Going at patience → lt_z r.got (pos 0) ≡ true → eq_z r.error (pos 4) ≡ false
-    → after (before ++ r ∷ later) size begun ≡ Failed
+    (size : ℕ) (before : List Read) (kind : ErrorKind) (later : List Read) (at patience : ℕ)
+    → after before size begun ≡ Going at patience → interrupted kind ≡ false
+    → after (before ++ Err kind ∷ later) size begun ≡ Failed
 
 -- and an interrupted one is tried again
 abbrev pub InterruptedIsTriedAgain : Type 0
-InterruptedIsTriedAgain =
-    (size at patience : ℕ) (r : Read) → lt_z r.got (pos 0) ≡ true → eq_z r.error (pos 4) ≡ true
-    → after_read at (patience + 1) size r.got r.error ≡ Going at patience
+InterruptedIsTriedAgain = (size at patience : ℕ) → after_read at (patience + 1) size (Err Interrupted) ≡ Going at patience

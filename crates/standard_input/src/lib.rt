@@ -2,13 +2,11 @@
 // other there is no input at all, so that nothing is ever made of a part of it.
 #![tactic(auto)]
 
-ghost use Rattle.std.specs.Prelude.{◌≡◌, ℕ, List, ◌-◌, ◌≤◌, ◌↔◌, length, take, pos, negsuc, IfOk, IfErr};
+ghost use Rattle.std.specs.Prelude.{◌≡◌, ℕ, List, ◌-◌, ◌≤◌, length, take, IfOk};
 ghost use Rattle.std.specs.declared.option.Option.{Option};
-ghost use Rattle.std.specs.Io.{ReadsAtMost};
 ghost use Rattle.std.specs.Io.KnownBytes.{Consumes};
-ghost use Rattle.std.specs.IoError.{error_kind};
 ghost use Rattle.io.specs.Counts.{IsPrefixLen};
-ghost use Rattle.standard_input.specs.Reads.{Moved, after_read, OneMore, Reached, Over, Holds, bytes};
+ghost use Rattle.standard_input.specs.Reads.{told, after_read, OneMore, Reached, Over, Holds, bytes};
 
 use std::io;
 use std::io::{ErrorKind, Read};
@@ -21,60 +19,21 @@ pub enum Progress {
     Failed,
 }
 
-// What reading comes to by a read that answered `got` and left `error` in errno, where `at` bytes of `size` were there before.
-fn after_read(at: usize, patience: u32, size: usize, got: isize, error: i32) -> Progress
+// What reading comes to by a read's answer, where `at` bytes of `size` were there before.
+#[tactic(auto, using(crate::proofs::Laws::not_interrupted), unfolding(crate::specs::Reads::after_read))]
+fn after_read(at: usize, patience: u32, size: usize, answer: io::Result<usize>) -> Progress
     requires at_most { at ≤ size }
-    requires moved { Moved (size - at) got }
-    ensures { result ≡ after_read at patience size got error }
-{
-    if got < 0 {
-        if error != 4 {
-            return Progress::Failed;
-        }
-        if patience == 0 {
-            return Progress::Failed;
-        }
-        return Progress::Going(at, patience - 1);
-    }
-    if got == 0 {
-        return Progress::Whole(at);
-    }
-    let there = at + got as usize;
-    if there == size {
-        return Progress::Whole(there);
-    }
-    Progress::Going(there, patience)
-}
-
-// What a read answered, as the C library has it: how many bytes came, or -1 for a failed one. `lent` is what it could write to.
-fn got_of(answer: &io::Result<usize>, lent: &[u8]) -> isize
-    requires { ReadsAtMost answer.now lent.now }
-    ensures ok { IfOk answer.now (λ n. result ≡ pos n) }
-    ensures failed { IfErr answer.now (λ e. result ≡ negsuc 0) }
+    requires moved { IfOk answer (λ n. n ≤ size - at) }
+    ensures { result ≡ after_read at patience size (told answer) }
 {
     match answer {
-        Ok(n) => *n as isize,
-        Err(_) => -1,
-    }
-}
-
-// The number of a failed read's error: 4 (EINTR) exactly if it was interrupted, 11 (EAGAIN) if its bytes are still to come, and else 5 (EIO);
-// 0 where none failed.
-fn error_of(answer: &io::Result<usize>) -> i32
-    ensures { IfErr answer.now (λ e. result ≡ pos 4 ↔ error_kind e ≡ ErrorKind.Interrupted) }
-{
-    match answer {
-        Ok(_) => 0,
-        Err(e) => {
-            let kind = e.kind();
-            if kind == ErrorKind::Interrupted {
-                4
-            } else if kind == ErrorKind::WouldBlock {
-                11
-            } else {
-                5
-            }
+        Ok(0) => Progress::Whole(at),
+        Ok(n) if at + n == size => Progress::Whole(at + n),
+        Ok(n) => Progress::Going(at + n, patience),
+        Err(e) if e.kind() == ErrorKind::Interrupted && patience > 0 => {
+            Progress::Going(at, patience - 1)
         }
+        Err(_) => Progress::Failed,
     }
 }
 
@@ -87,11 +46,8 @@ fn read_on<R: Read>(reader: &mut R, buf: &mut [u8], at: usize, patience: u32) ->
         → Holds result known (R.remaining reader.new) buf.new }
 {
     let size = buf.len();
-    let rest = &mut buf[at..];
-    let answer = reader.read(rest);
-    let got = got_of(&answer, rest);
-    let error = error_of(&answer);
-    after_read(at, patience, size, got, error)
+    let answer = reader.read(&mut buf[at..]);
+    after_read(at, patience, size, answer)
 }
 
 // Reads until buf is full or the input ends, and answers how many bytes stand at the front of buf; or that a read failed.

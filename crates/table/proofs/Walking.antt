@@ -1,60 +1,82 @@
--- The walk of a table, one row on and at its end. Assumes nothing.
-use mathlib.Core.Path.{◌≡◌, refl}
-use mathlib.Core.List.{List, [], ◌∷◌, ◌++◌}
-use Prim.Native.Nat.{ℕ, suc, ◌+◌, ◌*◌, ◌-◌, ◌<◌, min}
-use native.Mathlib.Nat.{sub_self}
+-- The walk of a table: what is known when r of its rows have passed, one row on, and its end. Assumes nothing.
+use Rattle.std.specs.Prelude.{Ok, Err}
+use mathlib.Core.Path.{◌≡◌, refl, sym, ap, ◌∙◌}
+use mathlib.Core.List.{List, [], ◌∷◌, ◌++◌, append_assoc, append-nil}
+use Prim.Native.Nat.{ℕ, suc, ◌+◌, ◌*◌, ◌-◌, ◌<◌}
+use native.Mathlib.Nat.{sub-zero}
 use native.Mathlib.Omega.{arith}
-use lib.ListN.{length, get_or, take, drop}
+use lib.ListN.{length, drop, length-append}
 use lib.Seq.{drop-drop}
-use Rattle.circuit.specs.declared.Counts.{Counts}
-use Rattle.circuit.specs.Counting.{◌⊕◌}
-use Rattle.sheet.specs.declared.Reading.{Reading}
-use Rattle.sheet.specs.declared.Reading.TheVariants.{Read, Refused}
-use Rattle.sheet.specs.declared.Record.{Record}
-use Rattle.sheet.specs.declared.Verdict.TheVariants.{Pass, Stop}
-use Rattle.sheet.specs.Rows.{read_row}
-use Rattle.sheet.specs.Acceptance.{record_at, judge, refused, ending, walk}
+use Rattle.std.specs.List.{All}
+use Rattle.std.proofs.lemmas.List.Elements.{All-push}
+use Rattle.circuit.specs.Counting.{◌⊕◌, the_first}
+use Rattle.sheet.specs.declared.Fields.{Fields}
+use Rattle.sheet.specs.declared.Passed.{Passed}
+use Rattle.sheet.specs.declared.Reason.{Reason}
+use Rattle.sheet.specs.Rows.{rows_of}
+use Rattle.sheet.specs.Acceptance.{judge, refused, Sheet, ending, walk, accept}
+use Rattle.counting.specs.Bounds.{Below}
+use Rattle.counting.proofs.Bounds.{plus_below}
+use Rattle.row.specs.RowAt.{row_at}
 use Rattle.judge.specs.Bounds.{InLimits}
-use Rattle.table.specs.declared.Places.{Places}
-use Rattle.table.specs.Surveys.{places_of, verdict_by}
-use Rattle.table.proofs.Earlier.{zeros}
+use Rattle.table.proofs.Lengths.{Whole}
 
--- r of the rows of t are walked, with the records rs, and count so
-module _ (rs : List Record) (so : Counts) (t : List ℕ) (rows r : ℕ) (h : r < rows) where
-  pub walk_pass : (o : Record) (k : Counts) → judge rs so.slots (read_row (take 8 (drop (8 * r) t))) ≡ Pass o k
-      → walk t rs so (rows - r) (drop (8 * r) t) ≡ walk t (rs ++ o ∷ []) (so ⊕ k) (rows - (r + 1)) (drop (8 * (r + 1)) t)
-  unfolding walk
-  walk_pass o k e =
-      let n : rows - r ≡ suc (rows - (r + 1)) = omega arith in
-      let d : 8 * r + 8 ≡ 8 * (r + 1) = omega arith in
-      rw (n, e, drop-drop, d)
+-- r of the rows are in the sheet, and the walk of those that are left is acceptance
+pub record Walking (table : List ℕ) (rows r : ℕ) (sheet : Sheet) : Type 0 where
+  pub whole : Whole table rows
+  pub as_many : length sheet.rows ≡ r
+  pub records : length sheet.records ≡ r
+  pub read : sheet.rows ++ rows_of (rows - r) (drop (8 * r) table) ≡ rows_of rows table
+  pub left : walk table sheet.records sheet.counts (rows - r) (drop (8 * r) table) ≡ accept table
+  pub limits : All InLimits sheet.records
+  pub few : Below (2 + 170000 * r) sheet.counts
 
-  pub walk_stop : (n : ℕ) → judge rs so.slots (read_row (take 8 (drop (8 * r) t))) ≡ Stop n → walk t rs so (rows - r) (drop (8 * r) t) ≡ refused n (length rs)
-  unfolding walk
-  walk_stop n e =
-      let m : rows - r ≡ suc (rows - (r + 1)) = omega arith in
-      rw (m, e)
+pub walking_none : {table : List ℕ} {rows : ℕ} → Whole table rows → Walking table rows 0 (record { rows = []; records = []; counts = the_first })
+walking_none {rows = rows} whole = record {
+  whole = whole;
+  as_many = refl;
+  records = refl;
+  read = rw sub-zero;
+  left = rw (sub-zero, whole.walks);
+  limits = λ k d h. absurd (omega arith);
+  few = record { unknowns = omega arith; variables = omega arith; clauses = omega arith; slots = omega arith };
+}
 
-pub walk_end : (rs : List Record) (so : Counts) (t s : List ℕ) (rows : ℕ) → walk t rs so (rows - rows) s ≡ ending t rs so
-unfolding walk
-walk_end rs so t s rows = rw sub_self
+module _ {table : List ℕ} {rows r : ℕ} {sheet : Sheet} (p : Walking table rows r sheet) where
+  -- all rows are walked
+  pub walked : r ≡ rows → (sheet.rows ≡ rows_of (length sheet.records) table) × (ending table sheet.records sheet.counts ≡ accept table)
+  unfolding rows_of walk
+  walked h =
+      let none : rows - r ≡ 0 = omega arith in
+      let same : length sheet.records ≡ rows = p.records ∙ h in
+      (rw same (sym (append-nil sheet.rows) ∙ rw none at p.read), rw none at p.left)
 
--- where a row refers to there is a record of the array, within the limits
-pub record Near (r : ℕ) (l : List Record) (at : Places) : Type 0 where
-  pub x : (at.x < 256) × InLimits (get_or l at.x zeros)
-  pub y : (at.y < 256) × InLimits (get_or l at.y zeros)
-  pub z : (at.z < 256) × InLimits (get_or l at.z zeros)
+  -- row r is next
+  module _ (h : r < rows) where
+    more : rows - r ≡ suc (rows - (r + 1))
+    more = omega arith
 
-pub nearby : (r : ℕ) (l : List Record) (q : Reading) {at : Places} → at ≡ places_of r q → r < 256 → ((x : ℕ) → InLimits (get_or l (min x r) zeros)) → Near r l at
-nearby r l (Read f) e h k = rw e (record { x = (omega arith, k f.x); y = (omega arith, k f.y); z = (omega arith, k f.z) })
-nearby r l (Refused n) e h k =
-    let m : min r r ≡ r = omega arith in
-    let own : InLimits (get_or l r zeros) = rw m at (k r) in
-    rw e (record { x = (h, own); y = (h, own); z = (h, own) })
+    behind : drop (8 * (r + 1)) table ≡ drop 8 (drop (8 * r) table)
+    behind = let e : 8 * (r + 1) ≡ 8 * r + 8 = omega arith in rw e (sym (drop-drop 8 (8 * r) table))
 
--- the verdict on a row as it was read, by the records that stand where it refers to
-pub judged : (rs l : List Record) (r first : ℕ) (q : Reading) {at : Places} → at ≡ places_of r q → length rs ≡ r → ((x : ℕ) → get_or l (min x r) zeros ≡ record_at rs x)
-    → verdict_by r first q (get_or l at.x zeros) (get_or l at.y zeros) (get_or l at.z zeros) ≡ judge rs first q
-unfolding judge
-judged rs l r first (Read f) e m k = rw (e, m, k f.x, k f.y, k f.z)
-judged rs l r first (Refused n) e m k = refl
+    pub walking_stop : {reason : Reason} → judge sheet.records sheet.counts.slots (row_at table r) ≡ Err reason → refused reason r ≡ accept table
+    unfolding walk
+    walking_stop {reason} e =
+        let left = rw (more, e) at p.left in
+        ap (λ (n : ℕ). refused reason n) (sym p.records) ∙ left
+
+    pub walking_next : {f : Fields} {passed : Passed} {next : Sheet} → row_at table r ≡ Ok f → judge sheet.records sheet.counts.slots (row_at table r) ≡ Ok passed
+        → InLimits passed.row × Below 170000 passed.counts → next.rows ≡ sheet.rows ++ f ∷ [] → next.records ≡ sheet.records ++ passed.row ∷ [] → next.counts ≡ sheet.counts ⊕ passed.counts
+        → Walking table rows (r + 1) next
+    unfolding rows_of walk
+    walking_next {f} {passed} e v bounded fs rs so =
+        let b = plus_below p.few bounded.1 so in
+        record {
+          whole = p.whole;
+          as_many = rw (fs, length-append sheet.rows (f ∷ [])) (omega (arith, p.as_many));
+          records = rw (rs, length-append sheet.records (passed.row ∷ [])) (omega (arith, p.records));
+          read = rw (fs, append_assoc, behind) (rw (more, e) at p.read);
+          left = rw (rs, so, behind) (rw (more, v) at p.left);
+          limits = rw rs (All-push InLimits sheet.records passed.row p.limits bounded.0);
+          few = record { unknowns = omega arith; variables = omega arith; clauses = omega arith; slots = omega arith };
+        }

@@ -1,38 +1,25 @@
-// The walk of a table: the first row that stops decides; else the records of all rows, and what the table counts. One pass over the
+// The walk of a table: the first row that stops decides; else the rows, their records, and what the table counts. One pass over the
 // table, `survey`, serves checking and measuring.
 #![tactic(auto)]
 
-ghost use Rattle.std.specs.Prelude.{◌≡◌, List, ℕ, ◌≤◌, ◌<◌, min, take, drop};
+ghost use Rattle.std.specs.Prelude.{◌≡◌, ◌+◌, ◌-◌, ◌*◌, ◌≤◌, ◌<◌, eqb, min, length, IfOk, MatchResult};
+ghost use Rattle.std.specs.List.{All};
 ghost use Rattle.sheet.specs.Acceptance as Acceptance;
-ghost use Rattle.sheet.specs.Acceptance.{accept};
-ghost use Rattle.sheet.specs.Calls.{◌giving◌, checking, counted};
+ghost use Rattle.sheet.specs.Acceptance.{judge, accept};
+ghost use Rattle.sheet.specs.Calls.{◌giving◌, checking};
 ghost use Rattle.counting.specs.Bounds.{Below};
-ghost use Rattle.judge.specs.Bounds.{InLimits, Bounded};
-ghost use Rattle.table.specs.Surveys.{refusal_of_length, number_of_verdict, places_of, verdict_by, blank, as_survey, AllInLimits, InBounds};
+ghost use Rattle.row.specs.RowAt.{row_at};
+ghost use Rattle.judge.specs.Bounds.{InLimits};
+ghost use Rattle.table.specs.Surveys.{length_tested, places_of};
 
-use answer::Survey;
 use circuit::Counts;
-use counting::NOTHING;
-use sheet::{MISSING, Measured, Reading, Record, Verdict};
+use sheet::{Fields, MISSING, Passed, Reason, Record, References, Refusal};
 
-pub mod answer;
+pub mod held;
 
-// Where three rows stand among the records.
-#[derive(Clone, Copy)]
-struct Places {
-    x: usize,
-    y: usize,
-    z: usize,
-}
+pub use held::Sheet;
 
-// Variable 1 and its unit; the unit of the last row.
-const THE_FIRST: Counts = Counts {
-    unknowns: 0,
-    variables: 1,
-    clauses: 1,
-    slots: 2,
-};
-
+// The unit of the last row.
 const THE_LAST: Counts = Counts {
     unknowns: 0,
     variables: 0,
@@ -41,164 +28,110 @@ const THE_LAST: Counts = Counts {
 };
 
 // Where row x stands among the records: at r, where none is written yet, if it is not one of the r rows before.
-pub fn place(x: u16, r: usize) -> usize
-    ensures answer { result ≡ min x r }
+fn place(x: u16, r: usize) -> usize
+    ensures { result ≡ min x r }
 {
-    let i = x as usize;
-    if i < r { i } else { r }
+    usize::from(x).min(r)
 }
 
-// Refusal 1 or 2 of a table of n bytes, 0 where there is none.
-fn refusal_of_length(n: usize) -> u32
-    ensures answer { result ≡ refusal_of_length n }
+// The same of the rows that a row refers to.
+pub fn places(f: Fields, r: usize) -> References<usize>
+    ensures { result ≡ places_of r f }
 {
-    if n == 0 {
-        return 1;
+    References {
+        x: place(f.x, r),
+        y: place(f.y, r),
+        z: place(f.z, r),
     }
-    if n % 8 != 0 {
-        return 1;
+}
+
+// Refusals 1 and 2 of a table of n bytes.
+#[tactic(auto, unfolding(crate::specs::Surveys::length_tested))]
+fn test_length(n: usize) -> Result<(), Refusal>
+    ensures { result ≡ length_tested n }
+{
+    if n == 0 || n % 8 != 0 {
+        return Err(Reason::WrongLength.at(0));
     }
     if 256 < n / 8 {
-        return 2;
+        return Err(Reason::TooManyRows.at(0));
     }
-    0
+    Ok(())
 }
 
-// The number of a verdict's refusal, 0 where there is none.
-fn number_of_verdict(verdict: Verdict) -> u32
-    ensures answer { result ≡ number_of_verdict verdict }
+// The record of row x, or what stands for a row that is not earlier.
+fn record_at(earlier: &[Record], x: u16) -> Record
+    ensures { result ≡ Acceptance.record_at earlier.now x }
 {
-    match verdict {
-        Verdict::Pass(_, _) => 0,
-        Verdict::Stop(n) => n,
-    }
+    earlier.get(usize::from(x)).copied().unwrap_or(MISSING)
 }
 
-// Where the rows that a row refers to stand, behind r others.
-fn referred(reading: Reading, r: usize) -> Places
-    ensures { result ≡ places_of r reading }
+// What row r says, and its record and counts behind the rows so far; or why it stops.
+#[tactic(auto, unfolding(sheet::specs::Acceptance::judge))]
+fn pass(table: &[u8], r: usize, sheet: &Sheet) -> Result<(Fields, Passed), Reason>
+    requires inside { 8 * r + 8 ≤ length table.now }
+    requires behind { length sheet.now.records ≡ r }
+    requires limits { All InLimits sheet.now.records }
+    ensures reads { IfOk result (λ p. row_at table.now r ≡ Ok p.0) }
+    ensures verdict { let verdict = judge sheet.now.records sheet.now.counts.slots (row_at table.now r) in MatchResult result (λ p. verdict ≡ Ok p.1) (λ reason. verdict ≡ Err reason) }
+    ensures bounded { IfOk result (λ p. InLimits p.1.row × Below 170000 p.1.counts) }
 {
-    match reading {
-        Reading::Read(f) => Places {
-            x: place(f.x, r),
-            y: place(f.y, r),
-            z: place(f.z, r),
-        },
-        Reading::Refused(_) => Places { x: r, y: r, z: r },
-    }
+    let f = row::read_at(table, r)?;
+    let earlier = sheet.records();
+    let of = References {
+        x: record_at(earlier, f.x),
+        y: record_at(earlier, f.y),
+        z: record_at(earlier, f.z),
+    };
+    let passed = judge::judge_row(r, sheet.counts().slots, f, of)?;
+    Ok((f, passed))
 }
 
-// The verdict on a row as it was read, behind r others; a, b and c are the records of the rows that it refers to.
-fn verdict_on(reading: Reading, r: usize, first: u32, a: Record, b: Record, c: Record) -> Verdict
-    requires in_limits_a { InLimits a }
-    requires in_limits_b { InLimits b }
-    requires in_limits_c { InLimits c }
-    ensures answer { result ≡ verdict_by r first reading a b c }
-    ensures bounded { Bounded result }
+// Whether the last of these rows is a number.
+fn ends_in_number(records: &[Record]) -> bool
+    requires { 0 < length records.now }
+    ensures { result ≡ eqb (Acceptance.record_at records.now (length records.now - 1)).sort 1 }
 {
-    match reading {
-        Reading::Read(f) => judge::judge_row(r, first, f, a, b, c),
-        Reading::Refused(n) => Verdict::Stop(n),
-    }
+    records[records.len() - 1].sort == 1
 }
 
-// A table that is refused has no rows.
-pub fn refused(number: u32, place: usize) -> Survey
-    ensures answer { result ≡ as_survey (Acceptance.refused number place) }
-    ensures bounds { InBounds result }
+// A table's sheet, or its refusal: the rows one by one, until one stops; behind the last, which must be Boolean, its unit is counted.
+pub fn survey(table: &[u8]) -> Result<Sheet, Refusal>
+    ensures { result ≡ accept table.now }
 {
-    let missing = MISSING;
-    let records = [missing; 256];
-    Survey {
-        number,
-        place,
-        rows: 0,
-        records,
-        counts: NOTHING,
-    }
-}
-
-// Past the last row, which must be Boolean. What is surveyed of a table are its records, so this holds of every table with these.
-fn ending(records: [Record; 256], rows: usize, so: Counts) -> Survey
-    requires rows_least { 0 < rows }
-    requires rows_most { rows ≤ 256 }
-    requires drop_is { drop rows records ≡ drop rows blank }
-    requires all_in_limits { AllInLimits (take rows records) }
-    requires below_so { Below 49000000 so }
-    ensures answer { (table : List ℕ) → result ≡ as_survey (Acceptance.ending table (take rows records) so) }
-    ensures bounds { InBounds result }
-{
-    let last = rows - 1;
-    let record = records[last];
-    if record.sort == 1 {
-        return refused(10, last);
-    }
-    let counts = counting::plus(so, THE_LAST);
-    Survey {
-        number: 0,
-        place: 0,
-        rows,
-        records,
-        counts,
-    }
-}
-
-// A table's refusal, or the records of its rows and what it counts: the rows one by one, until one stops.
-pub fn survey(table: &[u8]) -> Survey
-    ensures answer { result ≡ as_survey (accept table.now) }
-    ensures bounds { InBounds result }
-{
-    let n = refusal_of_length(table.len());
-    if n != 0 {
-        return refused(n, 0);
-    }
-    let rows = table.len() / 8;
-    let missing = MISSING;
-    let mut records = [missing; 256];
-    let mut so = THE_FIRST;
-    let mut r = 0;
-    while r < rows {
-        let start = 8 * r;
-        let end = start + 8;
-        let reading = row::read_row(&table[start..end]);
-        let at = referred(reading, r);
-        let x = at.x;
-        let y = at.y;
-        let z = at.z;
-        let verdict = verdict_on(reading, r, so.slots, records[x], records[y], records[z]);
-        let Verdict::Pass(record, counts) = verdict else {
-            return refused(number_of_verdict(verdict), r);
+    test_length(table.len())?;
+    let mut sheet = Sheet::start();
+    for r in 0..table.len() / 8 {
+        let verdict = pass(table, r, &sheet);
+        let Ok((f, passed)) = verdict else {
+            return Err(verdict.unwrap_err().at(r));
         };
-        records[r] = record;
-        so = counting::plus(so, counts);
-        r += 1;
+        sheet.push(f, passed);
     }
-    ending(records, rows, so)
+    if ends_in_number(sheet.records()) {
+        return Err(Reason::EndsInNumber.at(sheet.rows().len() - 1));
+    }
+    sheet.count_more(THE_LAST);
+    Ok(sheet)
 }
 
 // What a table counts, or its refusal.
-pub fn measure(table: &[u8]) -> Measured
-    ensures answer { counted result ≡ (accept table.now giving λ sheet. sheet.counts) }
+pub fn measure(table: &[u8]) -> Result<Counts, Refusal>
+    ensures { result ≡ (accept table.now giving λ sheet. sheet.counts) }
 {
-    let s = survey(table);
-    let counts = s.counts;
-    if s.number == 0 {
-        return Measured::Counted(counts);
-    }
-    Measured::Refused(s.number, s.place)
+    let sheet = survey(table)?;
+    Ok(sheet.counts())
 }
 
-// The survey of a table whose records are to fit so many lent ones.
-pub fn check_core(table: &[u8], room: usize) -> Survey
-    ensures answer { result ≡ as_survey (checking table.now room) }
-    ensures bounds { InBounds result }
+// The sheet of a table whose records are to fit so many lent ones.
+#[tactic(auto, unfolding(sheet::specs::Calls::checking))]
+pub fn check_core(table: &[u8], room: usize) -> Result<Sheet, Refusal>
+    ensures { result ≡ checking table.now room }
 {
-    let s = survey(table);
-    if s.number != 0 {
-        return s;
+    let sheet = survey(table)?;
+    let rows = sheet.rows().len();
+    if room < rows {
+        return Err(Reason::FewRecords.at(rows));
     }
-    if room < s.rows {
-        return refused(11, s.rows);
-    }
-    s
+    Ok(sheet)
 }

@@ -1,6 +1,6 @@
 -- What each gate of a row holds, in order of making, from the exact values and the widths of the rows that it refers to. No literal is
 -- needed for it: the bits of a row are those of its value. Assumes nothing.
-use Rattle.std.specs.Prelude.{◌≡◌, Bool, true, false, not, ◌&&◌, List, [], ◌∷◌, ◌++◌, ℕ, zero, suc, ◌+◌, ◌/◌, eqb, get_or, drop, ℤ, pos, negsuc, ◌+ℤ◌, ◌-ℤ◌}
+use Rattle.std.specs.Prelude.{Ok, ◌≡◌, Bool, true, false, not, ◌&&◌, List, [], ◌∷◌, ◌++◌, ℕ, zero, suc, ◌+◌, ◌/◌, eqb, get_or, drop, ℤ, pos, negsuc, ◌+ℤ◌, ◌-ℤ◌}
 use Rattle.whole.specs.Tests.{if◌then◌otherwise◌, eq_z}
 use Rattle.whole.specs.Bits.{bit, odd, half, bits_of, fewest}
 use Rattle.circuit.specs.Gates.{xor_of, mux_of, maj_of}
@@ -10,7 +10,7 @@ use Rattle.sheet.specs.declared.Fields.{Fields}
 use Rattle.sheet.specs.declared.Record.{Record}
 use Rattle.sheet.specs.Rows.{uses, is_unknown}
 use Rattle.sheet.specs.Values.{Value, truth_of, numerator, over, value_at, row_val, Chosen}
-use Rattle.sheet.specs.Acceptance.{meeting, larger, record_at, accepted, Sheet, accept}
+use Rattle.sheet.specs.Acceptance.{meeting, larger, record_at, Sheet, accept}
 use Rattle.sheet.specs.Steps.{extension}
 
 -- x and y are added in w places: for each t, the sum's bit and the new carry
@@ -92,5 +92,5 @@ traces rs rows vs = true ∷ traces_from rs [] rows vs
 -- which is the paper's one assignment that extends chosen values
 abbrev pub ExtensionTraced : Type 0
 ExtensionTraced =
-    (table : List ℕ) (sheet : Sheet) → accept table ≡ accepted sheet → (values : List ℤ) → Chosen sheet.rows values
+    (table : List ℕ) (sheet : Sheet) → accept table ≡ Ok sheet → (values : List ℤ) → Chosen sheet.rows values
     → extension sheet.rows values ≡ traces sheet.records sheet.rows values

@@ -3,15 +3,15 @@
 // whether the constraint is true, and the settings that the extended model decodes to. The file stdout has what the document says.
 #![tactic(auto)]
 
-use sheet::{Answer, Extended, Measured, Record};
+use sheet::{Reason, Record, Refusal};
 use std::io;
 
-fn write_refusal(rt: &impl Print, words: &[u8], number: u32, place: usize) -> io::Result<()> {
+fn write_refusal(rt: &impl Print, words: &[u8], refusal: Refusal) -> io::Result<()> {
     rt.write_all(words)?;
     rt.write_all(b" refused ")?;
-    rt.print(number)?;
+    rt.print(refusal.reason.number())?;
     rt.write_all(b" ")?;
-    rt.print(place)?;
+    rt.print(refusal.place)?;
     rt.write_all(b"\n")
 }
 
@@ -42,31 +42,18 @@ fn mark_of(last: bool) -> u8 {
     if last { 10 } else { 32 }
 }
 
-// The first n of these numbers.
-fn write_numbers(rt: &impl Print, words: &[u8], numbers: &[i64], n: usize) -> io::Result<()> {
+fn write_numbers(rt: &impl Print, words: &[u8], numbers: &[i64]) -> io::Result<()> {
     rt.write_all(words)?;
-    let mut i = 0;
-    while i < n {
-        if i >= numbers.len() {
-            return Ok(());
-        }
-        let x = numbers[i];
-        i += 1;
-        write_number(rt, x, mark_of(i == n))?;
+    for (i, n) in numbers.iter().enumerate() {
+        write_number(rt, *n, mark_of(i + 1 == numbers.len()))?;
     }
     Ok(())
 }
 
-fn write_denominators(rt: &impl Print, records: [Record; 256], rows: usize) -> io::Result<()> {
+fn write_denominators(rt: &impl Print, records: &[Record]) -> io::Result<()> {
     rt.write_all(b"denominators ")?;
-    let mut r = 0;
-    while r < rows {
-        if r >= 256 {
-            return Ok(());
-        }
-        let d = records[r].denominator;
-        r += 1;
-        write_denominator(rt, d, mark_of(r == rows))?;
+    for (r, record) in records.iter().enumerate() {
+        write_denominator(rt, record.denominator, mark_of(r + 1 == records.len()))?;
     }
     Ok(())
 }
@@ -74,14 +61,14 @@ fn write_denominators(rt: &impl Print, records: [Record; 256], rows: usize) -> i
 // Every row's numerator and denominator at these values.
 fn show_rows(rt: &impl Print, table: &[u8], values: &[i64]) -> io::Result<()> {
     let mut results = [7; 8];
-    let a = evaluate::evaluate(table, values, &mut results);
-    match a {
-        Answer::Done => write_numbers(rt, b"numerators ", &results, table.len() / 8)?,
-        Answer::Refused(n, p) => write_refusal(rt, b"evaluated", n, p)?,
+    match evaluate::evaluate(table, values, &mut results) {
+        Ok(()) => write_numbers(rt, b"numerators ", &results[..(table.len() / 8).min(8)])?,
+        Err(refusal) => write_refusal(rt, b"evaluated", refusal)?,
     }
-    let s = table::check_core(table, 256);
-    let records = s.records;
-    write_denominators(rt, records, s.rows)
+    match table::check_core(table, 256) {
+        Ok(sheet) => write_denominators(rt, sheet.records()),
+        Err(refusal) => write_refusal(rt, b"checked", refusal),
+    }
 }
 
 // What a model decodes to.
@@ -89,38 +76,30 @@ fn show_settings(rt: &impl Print, table: &[u8], model: &[u8], unknowns: usize) -
     let mut map = [7; 384];
     let mut slots = [7; 16384];
     let mut settings = [7; 2];
-    let s = decode::decode_core(table, 256, &mut map, &mut slots, model, &mut settings);
-    if s.number != 0 {
-        write_refusal(rt, b"decoded", s.number, s.place)?;
-        return Ok(());
+    match decode::decode_core(table, 256, &mut map, &mut slots, model, &mut settings) {
+        Ok(tried) => match tried.false_clause {
+            Some(clause) => write_refusal(rt, b"decoded", Reason::FalseClause.at(clause)),
+            None => write_numbers(rt, b"settings ", &settings[..unknowns.min(2)]),
+        },
+        Err(refusal) => write_refusal(rt, b"decoded", refusal),
     }
-    write_numbers(rt, b"settings ", &settings, unknowns)
 }
 
 // Whether the constraint is true of the values, and what their model decodes to.
 fn show_model(rt: &impl Print, table: &[u8], values: &[i64], model: &mut [u8]) -> io::Result<()> {
-    let e = extender::extend(table, values, model);
-    match e {
-        Extended::Constraint(b) => write_truth(rt, b)?,
-        Extended::Refused(n, p) => write_refusal(rt, b"extended", n, p)?,
+    match extender::extend(table, values, model) {
+        Ok(true) => rt.write_all(b"true\n")?,
+        Ok(false) => rt.write_all(b"false\n")?,
+        Err(refusal) => write_refusal(rt, b"extended", refusal)?,
     }
     show_settings(rt, table, model, values.len())
-}
-
-fn write_truth(rt: &impl Print, b: bool) -> io::Result<()> {
-    if b {
-        rt.write_all(b"true\n")?;
-        return Ok(());
-    }
-    rt.write_all(b"false\n")
 }
 
 // A byte for each variable that measuring counts.
 fn show(rt: &impl Print, name: &[u8], table: &[u8], values: &[i64]) -> io::Result<()> {
     rt.write_all(name)?;
     show_rows(rt, table, values)?;
-    let m = table::measure(table);
-    let Measured::Counted(counts) = m else {
+    let Ok(counts) = table::measure(table) else {
         return Ok(());
     };
     let n = counts.variables as usize;

@@ -1,3 +1,3 @@
 -- The laws of writing a table. Assumes nothing.
-pub mod Roomy
+pub mod Fitted
 pub mod Units

@@ -13,19 +13,18 @@ use Rattle.circuit.specs.Circuits.{gates, out, clauses_from}
 use Rattle.circuit.specs.Counting.{the_first}
 use Rattle.circuit.proofs.Lengths.{slots_of_append}
 use Rattle.sheet.specs.declared.Fields.{Fields}
-use Rattle.sheet.specs.declared.Record.{Record}
-use Rattle.sheet.specs.Rows.{rows_of}
+use Rattle.sheet.specs.Acceptance.{Sheet}
 use Rattle.sheet.specs.Steps.{Cell, lit, cell_at, page, pages, steps_from, steps, cells, clauses_but_last, last_clause, clauses, slots_for, map_for}
-use Rattle.sheet.proofs.Accepted.{accepted_tells}
 use Rattle.sheet.proofs.Counted.{cell_at_lem, cells_many}
 use Rattle.sheet.proofs.Pages.{Narrow, narrow_cells, pages_at}
 use Rattle.sheet.proofs.Total.{whole_table}
-use Rattle.promise.proofs.Counts.{counts_are_made, passed_narrow}
-use Rattle.table.proofs.Rowwise.{all_read}
+use Rattle.promise.proofs.Counts.{passed_narrow}
+use Rattle.table.specs.Accepted.{Accepted}
+use Rattle.table.proofs.Rowwise.{tells, some_rows, as_many}
 use Rattle.frame.specs.Frame.{front, over}
 use Rattle.frame.specs.Written.{written}
 use Rattle.frame.proofs.Frames.{front_then}
-use Rattle.writer.specs.Writable.{Writable, row_slots}
+use Rattle.writer.specs.Rows.{row_slots}
 
 -- the literal of the last row, as a slot
 abbrev pub last_literal : List Fields → ℤ
@@ -37,17 +36,17 @@ unfolding slots_for clauses clauses_but_last last_clause cells steps written
 table_slots rows = slots_of_append (clauses_from 0 (gates 0 (steps rows))) (last_clause rows ∷ [])
 
 -- they are written one behind the other
-pub units_written : (rows : ℕ) (table : List ℕ) (slots₀ : List ℤ) {s₁ s₂ s₃ : List ℤ} {at : ℕ}
-    → s₁ ≡ front (pos 1 ∷ pos 0 ∷ []) slots₀ → s₂ ≡ over 2 (row_slots rows table) s₁ → at ≡ 2 + length (row_slots rows table)
-    → s₃ ≡ over at (last_literal (rows_of rows table) ∷ pos 0 ∷ []) s₂ → s₃ ≡ front (slots_for (rows_of rows table)) slots₀
+pub units_written : (rows : List Fields) (slots₀ : List ℤ) {s₁ s₂ s₃ : List ℤ} {at : ℕ}
+    → s₁ ≡ front (pos 1 ∷ pos 0 ∷ []) slots₀ → s₂ ≡ over 2 (row_slots rows) s₁ → at ≡ 2 + length (row_slots rows)
+    → s₃ ≡ over at (last_literal rows ∷ pos 0 ∷ []) s₂ → s₃ ≡ front (slots_for rows) slots₀
 unfolding row_slots
-units_written rows table slots₀ {at = at} e f g h =
+units_written rows slots₀ {at = at} e f g h =
     let unit = pos 1 ∷ pos 0 ∷ [] in
-    let ws = row_slots rows table in
-    let last = last_literal (rows_of rows table) ∷ pos 0 ∷ [] in
+    let ws = row_slots rows in
+    let last = last_literal rows ∷ pos 0 ∷ [] in
     h ∙ ap (over at last) (f ∙ ap (over 2 ws) e ∙ front_then 2 unit ws slots₀ refl)
     ∙ front_then at (unit ++ ws) last slots₀ (omega (arith, g))
-    ∙ ap (λ (v : List ℤ). front v slots₀) (sym (table_slots (rows_of rows table)))
+    ∙ ap (λ (v : List ℤ). front v slots₀) (sym (table_slots rows))
 
 -- a page begins with the row's first literal
 page_head : (ls : List Lit) → 0 < length ls → get_or (page ls) 0 (pos 0) ≡ slot (get_or ls 0 falsity)
@@ -64,28 +63,15 @@ head_read cs rest x n h some =
     ∙ ap (λ (l : List ℤ). get_or l 0 (pos 0)) (pages_at cs x rest n h)
     ∙ page_head (cell_at cs x).literals some
 
-module _ (table : List ℕ) (rows : ℕ) (records : List Record) (map₀ slots₀ : List ℤ) (ok : Writable table rows records (length map₀) (length slots₀)) where
-  known_rows : ok.table_is.sheet.rows ≡ rows_of rows table
-  known_rows = all_read ok.table_is
-
-  pub some_rows : 0 < rows
-  some_rows = omega (arith, (accepted_tells table ok.table_is.sheet ok.table_is.is).some, ok.table_is.many)
-
-  last_in : {m : List ℤ} → m ≡ front (map_for ok.table_is.sheet.rows) map₀ → get_or m (48 * (length ok.table_is.sheet.rows - 1)) (pos 0) ≡ last_literal ok.table_is.sheet.rows
+module _ {sheet : Sheet} (a : Accepted sheet) where
+  pub last_read : (map₀ : List ℤ) {m : List ℤ} → m ≡ front (map_for sheet.rows) map₀ → get_or m (48 * (length sheet.rows - 1)) (pos 0) ≡ last_literal sheet.rows
   unfolding map_for cells steps front
-  last_in e =
-      let fs = ok.table_is.sheet.rows in
-      let a = accepted_tells table ok.table_is.sheet ok.table_is.is in
-      let w = whole_table ok.table_is.sheet a.total a.passed in
-      let cs = out 1 (steps_from [] fs) in
-      let narrow = narrow_cells _ ok.table_is.sheet.records cs w.fit (passed_narrow fs [] the_first ok.table_is.sheet.records a.total a.passed tt) in
-      let c = cell_at_lem _ (omega arith) ok.table_is.sheet.records cs w.fit (length fs - 1) in
-      let many : length cs ≡ length fs = cells_many _ ok.table_is.sheet.records cs w.fit ∙ (counts_are_made table ok.table_is.sheet ok.table_is.is).records in
-      let last : length fs - 1 < length cs = omega (arith, a.some, (counts_are_made table ok.table_is.sheet ok.table_is.is).records) in
-      ap (λ (l : List ℤ). get_or l (48 * (length fs - 1)) (pos 0)) e ∙ head_read cs _ (length fs - 1) narrow last (omega (arith, c.some, c.lits.size))
-
-  pub last_read : {m : List ℤ} → m ≡ front (map_for (rows_of rows table)) map₀ → get_or m (48 * (rows - 1)) (pos 0) ≡ last_literal (rows_of rows table)
-  last_read {m} e =
-      let r = known_rows in
-      let n : rows ≡ length ok.table_is.sheet.rows = omega (arith, ok.table_is.many, (counts_are_made table ok.table_is.sheet ok.table_is.is).records) in
-      ap (λ (i : ℕ). get_or m (48 * (i - 1)) (pos 0)) n ∙ last_in (e ∙ ap (λ (fs : List Fields). front (map_for fs) map₀) (sym r)) ∙ ap last_literal r
+  last_read map₀ e =
+      let x = length sheet.rows - 1 in
+      let t = tells a in
+      let w = whole_table sheet t.total t.passed in
+      let cs = out 1 (steps_from [] sheet.rows) in
+      let narrow = narrow_cells _ sheet.records cs w.fit (passed_narrow sheet.rows [] the_first sheet.records t.total t.passed tt) in
+      let c = cell_at_lem _ (omega arith) sheet.records cs w.fit x in
+      let last : x < length cs = omega (arith, some_rows a, cells_many _ sheet.records cs w.fit, as_many a) in
+      ap (λ (l : List ℤ). get_or l (48 * x) (pos 0)) e ∙ head_read cs _ x narrow last (omega (arith, c.some, c.lits.size))

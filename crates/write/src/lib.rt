@@ -1,35 +1,30 @@
 // Writing a table: every refusal is decided before anything is written; then the first unit, the rows and the last unit.
 #![tactic(auto)]
 
-ghost use Rattle.std.specs.Prelude.{◌≡◌, [], ◌∷◌, ◌≤◌, pos, length};
-ghost use Rattle.sheet.specs.Rows.{rows_of};
+ghost use Rattle.std.specs.Prelude.{◌≡◌, [], ◌∷◌, ◌*◌, ◌≤◌, pos, length};
 ghost use Rattle.sheet.specs.Steps.{map_for, slots_for};
 ghost use Rattle.sheet.specs.Calls.{writing, left, sheet_map, sheet_slots};
 ghost use Rattle.frame.specs.Frame.{front};
-ghost use Rattle.table.specs.Surveys.{as_survey, InBounds};
-ghost use Rattle.writer.specs.Writable.{Writable};
+ghost use Rattle.table.specs.Accepted.{Accepted};
 
-use sheet::Record;
-use table::answer::Survey;
+use sheet::{Reason, Refusal};
+use table::Sheet;
 
-// The survey of a table whose records, literal map and slots are to fit what is lent: refusals 1 to 13.
-pub fn fitting(table: &[u8], records: usize, map: usize, slots: usize) -> Survey
-    ensures answer { result ≡ as_survey (writing table.now records map slots) }
-    ensures bounds { InBounds result }
+// The sheet of a table whose records, literal map and slots are to fit what is lent: refusals 1 to 13.
+#[tactic(auto, unfolding(sheet::specs::Calls::writing))]
+pub fn fitting(table: &[u8], records: usize, map: usize, slots: usize) -> Result<Sheet, Refusal>
+    ensures { result ≡ writing table.now records map slots }
 {
-    let s = table::check_core(table, records);
-    if s.number != 0 {
-        return s;
-    }
-    let places = literal_map::places(s.rows);
+    let sheet = table::check_core(table, records)?;
+    let places = literal_map::places(sheet.rows().len());
     if map < places {
-        return table::refused(12, places);
+        return Err(Reason::ShortMap.at(places));
     }
-    let needed = s.counts.slots as usize;
+    let needed = sheet.counts().slots as usize;
     if slots < needed {
-        return table::refused(13, needed);
+        return Err(Reason::FewSlots.at(needed));
     }
-    s
+    Ok(sheet)
 }
 
 // A clause of one literal, over the front of the slots that remain.
@@ -42,36 +37,32 @@ fn put_unit(out: &mut [i32], x: i32)
 }
 
 // An accepted table that has room: the slots of the whole table, and its literal map.
-pub fn write_table(
-    table: &[u8],
-    rows: usize,
-    records: [Record; 256],
-    map: &mut [i32],
-    slots: &mut [i32],
-)
-    requires { Writable table.now rows records (length map.old) (length slots.old) }
-    ensures slots { slots.new ≡ front (slots_for (rows_of rows table.now)) slots.old }
-    ensures map { map.new ≡ front (map_for (rows_of rows table.now)) map.old }
+pub fn write_table(sheet: &Sheet, map: &mut [i32], slots: &mut [i32])
+    requires accepted { Accepted sheet.now }
+    requires map_room { 48 * length sheet.now.rows ≤ length map.old }
+    requires slot_room { sheet.now.counts.slots ≤ length slots.old }
+    ensures slots { slots.new ≡ front (slots_for sheet.now.rows) slots.old }
+    ensures map { map.new ≡ front (map_for sheet.now.rows) map.old }
 {
     put_unit(slots, 1);
-    let at = writer::write_rows(table, rows, records, map, slots);
-    let last = literal_map::first(map, rows - 1);
+    let at = writer::write_rows(sheet, map, slots);
+    let last = literal_map::first(map, sheet.rows().len() - 1);
     put_unit(&mut slots[at..], last);
 }
 
 // Writes a table's slots and literal map, or refuses and leaves both as they were. The records are in the answer; as many are to
 // be lent as there are rows.
-pub fn write_core(table: &[u8], records: usize, map: &mut [i32], slots: &mut [i32]) -> Survey
-    ensures answer { result ≡ as_survey (writing table.now records (length map.old) (length slots.old)) }
-    ensures bounds { InBounds result }
+pub fn write_core(
+    table: &[u8],
+    records: usize,
+    map: &mut [i32],
+    slots: &mut [i32],
+) -> Result<Sheet, Refusal>
+    ensures answer { result ≡ writing table.now records (length map.old) (length slots.old) }
     ensures map { map.new ≡ left (writing table.now records (length map.old) (length slots.old)) sheet_map map.old }
     ensures slots { slots.new ≡ left (writing table.now records (length map.old) (length slots.old)) sheet_slots slots.old }
 {
-    let found = fitting(table, records, map.len(), slots.len());
-    if found.number != 0 {
-        return found;
-    }
-    let kept = found.records;
-    write_table(table, found.rows, kept, map, slots);
-    found
+    let sheet = fitting(table, records, map.len(), slots.len())?;
+    write_table(&sheet, map, slots);
+    Ok(sheet)
 }

@@ -47,8 +47,7 @@ fn show_row(rt: &impl Print, bytes: &[u8], slots: &[i32]) -> io::Result<()> {
     let mut place = 0;
     let part = row_clauses::row_clauses(bytes, slots, 2, &mut number, &mut place);
     if number != 0 {
-        write_refusal(rt, number, place)?;
-        return Ok(());
+        return write_refusal(rt, number, place);
     }
     rt.write_all(b"its last row\n")?;
     write_text(rt, 0, 0, part, 1)
@@ -58,12 +57,10 @@ fn show_row(rt: &impl Print, bytes: &[u8], slots: &[i32]) -> io::Result<()> {
 fn show(rt: &impl Print, name: &[u8], bytes: &[u8], slots: &mut [i32]) -> io::Result<()> {
     rt.write_all(name)?;
     let mut map = [7; 144];
-    let s = write::write_core(bytes, 3, &mut map, slots);
-    if s.number != 0 {
-        write_refusal(rt, s.number, s.place)?;
-        return Ok(());
-    }
-    let counts = s.counts;
+    let counts = match write::write_core(bytes, 3, &mut map, slots) {
+        Ok(sheet) => sheet.counts(),
+        Err(refusal) => return write_refusal(rt, refusal.reason.number(), refusal.place),
+    };
     write_text(rt, counts.variables, counts.clauses, slots, 0)?;
     rt.write_all(b"its map\n")?;
     write_text(rt, 0, 0, &map[0..4], 1)?;

@@ -1,3 +1,4 @@
--- The walk over a table's rows: one row on, then all of them. Assumes nothing.
+-- The walk over the rows of an accepted table. Assumes nothing.
+pub mod Made
 pub mod Walk
 pub mod Walking

@@ -1,2 +1,2 @@
--- A table that is accepted and has room. Assumes nothing.
-pub mod Writable
+-- What the rows of a table write. Assumes nothing.
+pub mod Rows

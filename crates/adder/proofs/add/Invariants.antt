@@ -1,20 +1,15 @@
 -- `adder::add` meets its contract. Assumes nothing.
-use mathlib.Core.List.{List}
-use Prim.Native.Nat.{ℕ, ◌-◌}
-use lib.IntN.{ℤ}
-use Rattle.frame.specs.Literals.{IsLit, AllLit}
+use Prim.Native.Nat.{◌+◌, ◌≤◌}
+use lib.ListN.{length}
+use Rattle.std.specs.Iterator.Adapters.{zip_first, zip_second}
+use Rattle.std.specs.Slice.Iter.{iter_rest}
+use Rattle.circuit.specs.Numbers.{adder}
 use Rattle.frame.proofs.Loops.{Filling}
-use Rattle.adder.specs.Adding.{adding}
 use Rattle.adder.proofs.add.Given as goal
 
--- the places below i are added, with the carry c
-pub record Turns (slots₀ : List ℤ) (from low w : ℕ) (carry : ℤ) (first : ℕ) (x y slots bits : List ℤ) (at : ℕ) (c : ℤ) (n i : ℕ) : Type 0 where
-  pub lit : IsLit c
-  pub sound : AllLit w bits
-  pub filling : Filling from first (adding carry x y low w) x low w slots₀ slots at n bits i (adding c x y i w)
-
-abbrev pub invariant-loop-i : goal.invariant-loop-i
-invariant-loop-i l = Turns l.initial.slots l.from l.low l.width l.carry l.first l.x l.y l.slots l.bits l.at l.c l.next l.i
-
-abbrev pub decreases-loop-i : goal.decreases-loop-i
-decreases-loop-i l = l.width - l.i
+-- the sum of the places that are left, and this carry, is left
+abbrev pub invariant-loop-a : goal.invariant-loop-a
+invariant-loop-a l = record {
+  few : length l.sum + length (iter_rest (zip_first l.a-iterator)) ≤ 48;
+  filling : Filling l.fn.from (adder l.fn.carry l.x l.y) l.initial.slots l.slots l.to l.sum (adder l.carry (iter_rest (zip_first l.a-iterator)) (iter_rest (zip_second l.a-iterator)));
+}

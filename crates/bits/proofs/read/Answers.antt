@@ -1,40 +1,40 @@
 -- `bits::read` meets its contract. Assumes nothing.
-use mathlib.Core.Path.{sym}
-use Prim.Native.Nat.{◌-◌}
-use native.Mathlib.Omega.{arith}
-use borrow.Author.Rules.{rules}
-use lib.IntN.{pos}
-use lib.ListN.{length, get_or, drop, length-drop}
+use Rattle.std.proofs.Common.{◌∙◌, ap, pos, rules, arith}
+use Rattle.std.proofs.lemmas.Int.{ints, to_z-of_z}
 use mir.Syntax.{w32}
 use mir.Val.{SFits}
-use mir.Facts.{to_z-of_z}
-use Rattle.arithmetic.proofs.Words.{kept}
-use Rattle.bits.proofs.Reading.{values_fit, last_value, more_values}
+use Rattle.whole.specs.Bits.{bit}
+use Rattle.assign.specs.Model.{value}
+use Rattle.bits.proofs.Reading.{byte_bit, bit_most, no_values, read_sign, read_more, next_lit}
 use Rattle.bits.proofs.read.Goals as goal
 
-pub loop-i-init : goal.loop-i-init
-loop-i-init c =
-    let l = c.args.literals.now in
-    let i = length l - 1 in
-    let fits : SFits w32 (get_or l i (pos 0)) = search rules in
-    let e = rw (to_z-of_z fits) at c.is_true.ensures in
-    record {
-      within = omega arith;
-      value = rw (kept c.sign-v.result c.sign-v.type_inv, c.sign-v.ensures, e) (sym (last_value c.args.model.now l i (omega arith)));
-    }
+pub returns-in_default : goal.returns-in_default
+returns-in_default c = no_values c.args.model.now c.args.literals.now c.in_default.ensures.cases
 
-pub read_bit-v-requires-clause-fits_above : goal.read_bit-v-requires-clause-fits_above
-read_bit-v-requires-clause-fits_above c =
-    rw c.loop-i.invariant.value (values_fit c.args.model.now (drop c.loop-i.i c.args.literals.now) (rw length-drop (omega (arith, c.requires.few))))
+pub loop-x-init : goal.loop-x-init
+loop-x-init c =
+    let x = c.in-Some.sign.now in
+    let f : SFits w32 x = search rules in
+    let b = rw to_z-of_z at c.is_true.ensures in
+    let e = c.from-v.ensures ∙ ap pos (byte_bit c.is_true.result) ∙ ap (λ t. pos (bit t)) b in
+    let k = bit_most (value c.args.model.now x) in
+    read_sign c.args.model.now c.args.literals.now c.requires.few _ x _ (rw (c.into_iter-x-iterator.ensures.into_iter_gives, c.rev-x-items.ensures.source, c.iter.ensures.rest) c.in-Some.ensures.cases.0) (omega (arith, ints))
 
-pub loop-i-preserved : goal.loop-i-preserved
-loop-i-preserved c =
-    let l = c.args.literals.now in
-    let i = c.loop-i.i - 1 in
-    let v = c.loop-i.invariant in
-    let fits : SFits w32 (get_or l i (pos 0)) = search rules in
-    let e = rw (to_z-of_z fits, v.value) at c.read_bit-v.ensures in
-    record {
-      within = omega (arith, v.within);
-      value = rw (kept c.read_bit-v.result c.read_bit-v.type_inv, e) (sym (more_values c.args.model.now l i c.loop-i.i (omega arith) v.within));
-    }
+pub is_true-requires-in-loop-x : goal.is_true-requires-in-loop-x
+is_true-requires-in-loop-x c =
+    let f : SFits w32 c.in-Some-x.x.now = search rules in
+    rw to_z-of_z (next_lit c.args.model.now c.args.literals.now c.requires.few c.loop-x.invariant c.next.new.self.iter.rest.now c.in-Some-x.x.now c.in-Some-x.ensures.steps c.requires.all)
+
+pub overflow_add-v : goal.overflow_add-v
+overflow_add-v c =
+    let e = c.from.ensures ∙ ap pos (byte_bit c.is_true-in-loop-x.result) in
+    omega (arith, ints, c.loop-x.invariant.fits, bit_most c.is_true-in-loop-x.result)
+
+pub loop-x-preserved : goal.loop-x-preserved
+loop-x-preserved c =
+    let x = c.in-Some-x.x.now in
+    let f : SFits w32 x = search rules in
+    let b = rw to_z-of_z at c.is_true-in-loop-x.ensures in
+    let e = c.from.ensures ∙ ap pos (byte_bit c.is_true-in-loop-x.result) ∙ ap (λ t. pos (bit t)) b in
+    let k = bit_most (value c.args.model.now x) in
+    read_more c.args.model.now c.args.literals.now c.requires.few c.loop-x.invariant c.next.new.self.iter.rest.now x c.in-Some-x.ensures.steps _ (omega (arith, ints, c.loop-x.invariant.fits))

@@ -1,20 +1,15 @@
 -- `choice::choose` meets its contract. Assumes nothing.
-use mathlib.Core.List.{List}
-use Prim.Native.Nat.{ℕ, ◌-◌}
-use lib.IntN.{ℤ}
+use Prim.Native.Nat.{◌+◌, ◌≤◌}
+use lib.ListN.{length}
+use Rattle.std.specs.Iterator.Adapters.{zip_first, zip_second}
+use Rattle.std.specs.Slice.Iter.{iter_rest}
 use Rattle.circuit.specs.Numbers.{muxes}
-use Rattle.frame.specs.Literals.{unslot, between, AllLit}
 use Rattle.frame.proofs.Loops.{Filling}
-use Rattle.choice.specs.Choosing.{choosing}
 use Rattle.choice.proofs.choose.Given as goal
 
--- the places below i are chosen
-pub record Turns (slots₀ : List ℤ) (from w : ℕ) (c : ℤ) (first : ℕ) (x y slots bits : List ℤ) (at n i : ℕ) : Type 0 where
-  pub sound : AllLit w bits
-  pub filling : Filling from first (choosing c x y w) x 0 w slots₀ slots at n bits i (muxes (unslot c) (between i w x) (between i w y))
-
-abbrev pub invariant-loop-i : goal.invariant-loop-i
-invariant-loop-i l = Turns l.initial.slots l.from l.width l.condition l.first l.x l.y l.slots l.bits l.at l.next l.i
-
-abbrev pub decreases-loop-i : goal.decreases-loop-i
-decreases-loop-i l = l.width - l.i
+-- the choice of the places that are left, is left
+abbrev pub invariant-loop-a : goal.invariant-loop-a
+invariant-loop-a l = record {
+  few : length l.chosen + length (iter_rest (zip_first l.a-iterator)) ≤ 48;
+  filling : Filling l.fn.from (muxes l.condition l.x l.y) l.initial.slots l.slots l.to l.chosen (muxes l.condition (iter_rest (zip_first l.a-iterator)) (iter_rest (zip_second l.a-iterator)));
+}

@@ -1,40 +1,26 @@
 -- `choose::first_outside` meets its contract. Assumes nothing.
-use mathlib.Core.Path.{◌≡◌, sym, ◌∙◌}
-use native.Mathlib.Omega.{arith}
+use Rattle.std.proofs.Common.{◌∙◌, rules, tests}
+use Rattle.std.proofs.lemmas.Iterator.{YieldsList-from_slice, YieldsList-from_zip}
+use Rattle.std.proofs.lemmas.Iterator.Adapters.{serves_from_places}
+use Rattle.std.proofs.lemmas.Iterator.Consumers.{YieldsList-at, YieldsList-from_filter}
+use Rattle.std.proofs.lemmas.Iterator.Search.{position_from_yields_List}
 use Rattle.sheet.specs.Rows.{uses}
-use Rattle.arithmetic.proofs.Words.{kept}
-use Rattle.declared.proofs.Limits.{declared}
-use Rattle.table.proofs.Rowwise.{all_bytes, same_read, not_refused}
-use Rattle.choose.proofs.Outside.{looking_none, looking_row, looking_stop, looking_next}
+use Rattle.declared.specs.Declared.{Declared}
+use Rattle.choose.proofs.Testing.{asks, outside_bits, first_outside, known_of_each}
 use Rattle.choose.proofs.first_outside.Goals as goal
-use Rattle.choose.proofs.first_outside.Goals.{In-Read}
 
-pub loop-r-init : goal.loop-r-init
-loop-r-init c = looking_none c.requires
+pub position-requires-clause-callable : goal.position-requires-clause-callable
+position-requires-clause-callable c =
+    serves_from_places
+    (YieldsList-from_zip (YieldsList-at c.zip.ensures.first (YieldsList-from_filter _ asks (YieldsList-from_slice c.args.rows.now cc) c.filter.ensures.closure (λ x b q k. search (rules, tests))))
+    (YieldsList-from_slice c.args.values.now cc))
+    (λ x q k. search (rules, tests))
+    (λ x k h e. let d = known_of_each (λ f. Declared (uses f.kind) f.p) c.args.rows.now c.args.values.now c.requires k _ h e in search (rules, tests))
 
-pub read_at-requires : goal.read_at-requires
-read_at-requires c = omega (arith, c.loop-r-test.true, all_bytes c.loop-r.invariant.ok.table_is)
-
-pub returns-in_default : goal.returns-in_default
-returns-in_default c = absurd (not_refused (sym (looking_row c.loop-r.invariant c.loop-r-test.true).read ∙ sym c.read_at.ensures.answer ∙ c.in_default.is))
-
--- the row that was read
-is_row : (c : In-Read) → (looking_row c.loop-r.invariant c.loop-r-test.true).fields ≡ c.in-Read.f
-is_row c = same_read (sym (looking_row c.loop-r.invariant c.loop-r-test.true).read ∙ sym c.read_at.ensures.answer ∙ c.in-Read.is)
-
-pub in_bits-requires : goal.in_bits-requires
-in_bits-requires c =
-    let f = looking_row c.loop-r.invariant c.loop-r-test.true in
-    rw (sym (is_row (goal.at.in_bits-requires c).In-Read)) (declared (uses f.fields.kind) f.fields.p f.fields.x f.fields.z f.passes.ranged)
-
-pub returns-then-not-in_bits : goal.returns-then-not-in_bits
-returns-then-not-in_bits c =
-    let row = is_row (goal.at.returns-then-not-in_bits c).In-Read in
-    let tested = rw (kept c.value_at-v.result c.value_at-v.type_inv, c.value_at-v.ensures) at c.in_bits.ensures in
-    looking_stop c.loop-r.invariant c.loop-r-test.true row (sym tested ∙ c.if-not-in_bits.true)
-
-pub loop-r-preserved : goal.loop-r-preserved
-loop-r-preserved c =
-    let row = is_row (goal.at.loop-r-preserved c).In-Read in
-    let tested = rw (kept c.value_at-v.result c.value_at-v.type_inv, c.value_at-v.ensures) at c.in_bits.ensures in
-    rw c.asked-i.ensures (looking_next c.loop-r.invariant c.loop-r-test.true row (sym tested ∙ c.if-not-in_bits.false))
+pub returns : goal.returns
+returns c =
+    position_from_yields_List outside_bits c.position.new.self _ _ c.position.ensures.ran
+    (YieldsList-from_zip (YieldsList-at c.zip.ensures.first (YieldsList-from_filter _ asks (YieldsList-from_slice c.args.rows.now cc) c.filter.ensures.closure (λ x b q k. search (rules, tests))))
+    (YieldsList-from_slice c.args.values.now cc))
+    (λ x b q k. search (rules, tests))
+    ∙ first_outside c.args.rows.now c.args.values.now

@@ -1,21 +1,18 @@
 -- `compare::greater` meets its contract. Assumes nothing.
-use mathlib.Core.List.{List}
-use Prim.Native.Nat.{ℕ, ◌-◌, ◌<◌}
-use lib.IntN.{ℤ}
+use mathlib.Core.Path.{◌≡◌}
+use Prim.Native.Nat.{◌+◌}
+use lib.ListN.{length}
+use Rattle.std.specs.Iterator.Adapters.{enumerate_source, enumerate_count, zip_first, zip_second}
+use Rattle.std.specs.Slice.Iter.{iter_rest}
+use Rattle.circuit.specs.Literals.{falsity}
 use Rattle.circuit.specs.Numbers.{greater_from}
-use Rattle.frame.specs.Literals.{unslot, between, IsLit}
-use Rattle.frame.proofs.Loops.{Going}
-use Rattle.compare.specs.Comparing.{ordering}
+use Rattle.frame.proofs.Loops.{Left}
 use Rattle.compare.proofs.greater.Given as goal
 
--- the places below i are compared, the sign not among them, and g says whether x is above y there
-pub record Turns (slots₀ : List ℤ) (from w first : ℕ) (x y slots : List ℤ) (g : ℤ) (at n i : ℕ) : Type 0 where
-  pub within : i < w
-  pub lit : IsLit g
-  pub going : Going from first (ordering x y w) slots₀ slots at n (greater_from (unslot g) (between i w x) (between i w y))
-
+-- the comparison of the places that are left, is left
 abbrev pub invariant-loop-i : goal.invariant-loop-i
-invariant-loop-i l = Turns l.initial.slots l.from l.width l.first l.x l.y l.slots l.g l.at l.next l.i
-
-abbrev pub decreases-loop-i : goal.decreases-loop-i
-decreases-loop-i l = l.width - l.i
+invariant-loop-i l = record {
+  places : enumerate_count l.i-iterator + length (iter_rest (zip_first (enumerate_source l.i-iterator))) ≡ length l.x;
+  left : Left l.fn.from (greater_from falsity l.x l.y) l.initial.slots l.slots l.g.to
+      (greater_from l.g.value (iter_rest (zip_first (enumerate_source l.i-iterator))) (iter_rest (zip_second (enumerate_source l.i-iterator)))) (λ r. r);
+}

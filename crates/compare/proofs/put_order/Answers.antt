@@ -1,20 +1,13 @@
 -- `compare::put_order` meets its contract. Assumes nothing.
-use mathlib.Core.Path.{refl}
-use mathlib.Core.List.{List, [], ◌∷◌}
-use Prim.Native.Nat.{◌+◌}
-use mir.Facts.{to_z-of_z}
-use Rattle.circuit.specs.Literals.{plus}
-use Rattle.circuit.specs.Gates.{Gate, xor, mux}
-use Rattle.frame.specs.Literals.{unslot}
-use Rattle.frame.proofs.Literals.{answered}
-use Rattle.frame.proofs.Writing.{front_gates}
+use Rattle.frame.proofs.Loops.{left_all, left_none, gate_room, gate_step}
+use Rattle.compare.specs.Comparing.{order_bit}
 use Rattle.compare.proofs.put_order.Goals as goal
 
-pub returns-clause-slots : goal.returns-clause-slots
-returns-clause-slots c =
-    let n = c.args.next in
-    let one : List Gate = xor (unslot c.args.a) (unslot c.args.b) ∷ [] in
-    let two : List Gate = mux (plus n) (unslot c.args.p) (unslot c.args.g) ∷ [] in
-    let e = rw (to_z-of_z c.ranges.a, to_z-of_z c.ranges.b) at c.put_xor-d.ensures.slots in
-    let f = rw (answered (c.put_xor-d.ensures.result_is, c.put_xor-d.ensures.is_lit), to_z-of_z c.ranges.p, to_z-of_z c.ranges.g) at c.put_mux.ensures.slots in
-    front_gates 16 n (n + 1) one two c.args.out.now refl refl e f
+pub xor-d-requires : goal.xor-d-requires
+xor-d-requires c = gate_room (left_all (order_bit c.args.a c.args.b c.args.p c.args.g) c.requires)
+
+pub mux-requires : goal.mux-requires
+mux-requires c = gate_room (gate_step (left_all (order_bit c.args.a c.args.b c.args.p c.args.g) c.requires) c.xor-d.ensures)
+
+pub returns : goal.returns
+returns c = left_none (gate_step (gate_step (left_all (order_bit c.args.a c.args.b c.args.p c.args.g) c.requires) c.xor-d.ensures) c.mux.ensures)

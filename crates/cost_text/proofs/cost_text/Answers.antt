@@ -1,5 +1,5 @@
 -- `cost_text::cost_text` meets its contract. Assumes nothing.
-use mathlib.Core.Path.{◌≡◌, sym}
+use mathlib.Core.Path.{◌≡◌, sym, ◌∙◌}
 use mathlib.Core.Bool.{false}
 use mathlib.Core.List.{List}
 use Prim.Native.Nat.{ℕ, ◌*◌}
@@ -22,26 +22,26 @@ blank-long = length-replicate {A = ℕ} 2048 0
 
 pub slice_bounds-table-end : goal.slice_bounds-table-end
 slice_bounds-table-end c =
-    let few = found_few false (input_of c.args.input.now) blank blank-long c.in-Read.found (rw c.used-used.ensures.answer at c.in-Read.ensures.answer) in
-    let long : length c.read_lines-read.new.table ≡ 2048 = search rules in
+    let few = found_few false (input_of c.args.input.now) blank blank-long c.in-Ok.found (rw c.used.ensures at (sym c.read_lines.ensures.answer ∙ c.in-Ok.is)) in
+    let long : length c.read_lines.new.table ≡ 2048 = search rules in
     omega (arith, few, long)
 
 pub slice_bounds-print_costs-end : goal.slice_bounds-print_costs-end
 slice_bounds-print_costs-end c =
-    let few = found_few false (input_of c.args.input.now) blank blank-long c.in-Read.found (rw c.used-used.ensures.answer at c.in-Read.ensures.answer) in
-    let long : length c.read_lines-read.new.table ≡ 2048 = search rules in
-    sym (length-take-le (8 * c.in-Read.found.rows) c.read_lines-read.new.table (omega (arith, few, long)))
+    let few = found_few false (input_of c.args.input.now) blank blank-long c.in-Ok.found (rw c.used.ensures at (sym c.read_lines.ensures.answer ∙ c.in-Ok.is)) in
+    let long : length c.read_lines.new.table ≡ 2048 = search rules in
+    sym (length-take-le (8 * c.in-Ok.found.rows) c.read_lines.new.table (omega (arith, few, long)))
 
-pub returns-in-Refused : goal.returns-in-Refused
-returns-in-Refused c =
-    let line = lines_printed c.args.input.now blank blank-long (rw c.used-used.ensures.answer at c.in-Refused.ensures.answer) in
+pub returns-in-Ok : goal.returns-in-Ok
+returns-in-Ok c =
+    let input = c.args.input.now in
+    let found = c.in-Ok.found in
+    let e = rw c.used.ensures at (sym c.read_lines.ensures.answer ∙ c.in-Ok.is) in
+    let table = rw c.used.ensures at c.read_lines.ensures.table in
+    rw (found_table false (input_of input) blank blank-long found e table, ← found_printed input blank blank-long found e) at c.print_costs.ensures
+
+pub returns-in-Err : goal.returns-in-Err
+returns-in-Err c =
+    let line = lines_printed c.args.input.now blank blank-long (rw c.used.ensures at (sym c.read_lines.ensures.answer ∙ c.in-Err.is)) in
     let whole = piece_whole (costs_program c.args.input.now) c.args.out.now (omega (arith, c.requires)) in
     rw (← line, whole) at c.refused_line.ensures
-
-pub returns-in-Read : goal.returns-in-Read
-returns-in-Read c =
-    let input = c.args.input.now in
-    let found = c.in-Read.found in
-    let e = rw c.used-used.ensures.answer at c.in-Read.ensures.answer in
-    let table = rw c.used-used.ensures.answer at c.in-Read.ensures.table in
-    rw (found_table false (input_of input) blank blank-long found e table, ← found_printed input blank blank-long found e) at c.print_costs.ensures

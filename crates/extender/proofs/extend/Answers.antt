@@ -1,41 +1,27 @@
 -- `extender::extend` meets its contract. Assumes nothing.
+use Rattle.std.proofs.Common.{rules}
+use Rattle.std.proofs.lemmas.Result.{err_from_is_err_and}
+use mathlib.Core.Path.{refl}
 use lib.IntN.{pos}
 use lib.ListN.{replicate}
-use Rattle.sheet.specs.Calls.{choosing}
-use Rattle.choose.proofs.Choosing.{Surveyed, surveyed, choosing_numbered}
-use Rattle.evaluate.proofs.Evaluating.{evaluable}
-use Rattle.extender.proofs.Extending.{not_chosen, too_short, some, extendable, extended}
+use Rattle.extender.proofs.Extending.{not_chosen, chosen, too_short, extended}
 use Rattle.extender.proofs.extend.Goals as goal
-use Rattle.extender.proofs.extend.Goals.{Else-s-ne0}
 
--- the survey, where the table and the values are not refused
-read : (n : Else-s-ne0) → Surveyed (choosing n.args.table.now n.args.values.now) n.choose-s.result
-read n = surveyed (choosing n.args.table.now n.args.values.now) n.choose-s.ensures.answer (choosing_numbered n.args.table.now n.args.values.now) n.if-s-ne0.false
+pub fill-requires-clause-chosen : goal.fill-requires-clause-chosen
+fill-requires-clause-chosen c = chosen c.args.table.now c.args.values.now c.in_ok-sheet.ensures
 
-pub returns-then-s-ne0 : goal.returns-then-s-ne0
-returns-then-s-ne0 c = not_chosen c.args.table.now c.args.values.now c.args.model.now c.choose-s.ensures.answer c.if-s-ne0.true
+pub extend_rows-requires-clause-chosen : goal.extend_rows-requires-clause-chosen
+extend_rows-requires-clause-chosen c = chosen c.args.table.now c.args.values.now c.in_ok-sheet.ensures
+
+pub returns-in_err-sheet : goal.returns-in_err-sheet
+returns-in_err-sheet c =
+    let p = err_from_is_err_and c.from_residual.result c.from_residual.ensures.1 in
+    rw (p.1, p.2) (not_chosen c.args.table.now c.args.values.now c.in_err-sheet.ensures)
 
 pub returns-then-model-variables : goal.returns-then-model-variables
 returns-then-model-variables c =
-    let n = (goal.at.returns-then-model-variables c).Else-s-ne0 in
-    too_short c.args.table.now c.args.values.now c.args.model.now (read n) c.if-model-variables.true
-
-pub fill-requires : goal.fill-requires
-fill-requires c =
-    let n = (goal.at.fill-requires c).Else-s-ne0 in
-    evaluable c.args.table.now c.args.values.now (replicate 256 (pos 0)) (read n) c.choose-s.ensures.bounds.few
-
-pub extend_rows-requires : goal.extend_rows-requires
-extend_rows-requires c =
-    let n = (goal.at.extend_rows-requires c).Else-s-ne0 in
-    extendable c.args.table.now c.args.values.now c.args.model.now (read n) c.if-model-variables.false _ c.fill.ensures
-
-pub overflow_sub-rows : goal.overflow_sub-rows
-overflow_sub-rows c =
-    let n = (goal.at.overflow_sub-rows c).Else-s-ne0 in
-    some c.args.table.now c.args.values.now c.args.model.now (read n)
+    rw (c.at.ensures, c.counts-variables.ensures) (too_short c.args.table.now c.args.values.now c.in_ok-sheet.ensures (rw c.counts-variables.ensures at c.if-model-variables.true))
 
 pub returns : goal.returns
 returns c =
-    let n = (goal.at.returns c).Else-s-ne0 in
-    extended c.args.table.now c.args.values.now c.args.model.now (read n) c.if-model-variables.false _ c.fill.ensures c.is_true-truth.ensures c.extend_rows.ensures
+    extended c.args.table.now c.args.values.now c.in_ok-sheet.ensures (replicate 256 (pos 0)) c.fill.ensures (rw c.counts-variables.ensures at c.if-model-variables.false) (search rules) (rw c.rows-rows.ensures.rows refl)

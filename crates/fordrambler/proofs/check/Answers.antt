@@ -1,23 +1,22 @@
--- `fill` and `answer_of` take what `check_core` surveyed: an accepted table's records fit those that are lent, and both say what checking comes to.
-use Rattle.std.proofs.Common.{ℕ, List, length, ◌∙◌}
-use Rattle.sheet.specs.Acceptance.{Outcome, Sheet}
-use Rattle.sheet.specs.Calls.{checking}
-use Rattle.table.proofs.Answers.{checking_numbered}
-use Rattle.fordrambler.proofs.Surveyed.{of_one, answered, records_left}
-use Rattle.fordrambler.proofs.Fits.{roomy, checking_fits}
+-- `fordrambler::check` meets its contract. Assumes nothing.
+use mathlib.Core.Path.{sym, ap, ◌∙◌}
+use native.Mathlib.Omega.{arith}
+use lib.ListN.{length}
+use Rattle.std.proofs.lemmas.Result.{err_from_is_err_and}
+use Rattle.fordrambler.proofs.Fits.{checking_fits}
+use Rattle.fordrambler.proofs.Leaving.{refused_says, done_says, records_kept, records_filled}
 use Rattle.fordrambler.proofs.check.Goals as goal
 
+pub returns-in_err-sheet : goal.returns-in_err-sheet
+returns-in_err-sheet c =
+    let p = err_from_is_err_and c.from_residual.result c.from_residual.ensures.1 in
+    let e = sym c.check_core.ensures ∙ c.in_err-sheet.was in
+    rw (p.1, p.2) (record { says = refused_says e; records = records_kept c.args.records.now e })
+
 pub fill-requires : goal.fill-requires
-fill-requires c =
-    let o : Outcome Sheet = checking c.args.table.now (length c.args.records.now) in
-    let s = c.check_core-s.ensures in
-    (roomy o o (s.answer ∙ of_one o) (length c.args.records.now) (checking_fits (length c.args.records.now) c.args.table.now), s.bounds.few)
+fill-requires c = omega (arith, ap length c.records.ensures.records, checking_fits c.args.table.now (length c.args.records.now) (sym c.check_core.ensures ∙ c.in_ok-sheet.was))
 
 pub returns : goal.returns
 returns c =
-    let o : Outcome Sheet = checking c.args.table.now (length c.args.records.now) in
-    let s = c.check_core-s.ensures in
-    record {
-      says = answered o o (s.answer ∙ of_one o) (checking_numbered c.args.table.now (length c.args.records.now)) c.answer_of.ensures;
-      records = records_left o o (s.answer ∙ of_one o) c.args.records.now c.fill.ensures;
-    }
+    let e = sym c.check_core.ensures ∙ c.in_ok-sheet.was in
+    record { says = done_says e; records = rw (c.fill.ensures, c.records.ensures.records) (records_filled c.args.records.now e) }

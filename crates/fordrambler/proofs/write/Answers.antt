@@ -1,30 +1,25 @@
--- `fill` and `answer_of` take what `write_core` surveyed: an accepted table's records fit those that are lent, and both say what writing comes to;
--- the map and the slots are as `write_core` leaves them.
-use Rattle.std.proofs.Common.{ℕ, List, length, ◌∙◌}
-use Rattle.sheet.specs.Acceptance.{Outcome, Sheet}
-use Rattle.sheet.specs.Calls.{writing}
-use Rattle.write.proofs.Roomy.{writing_numbered}
-use Rattle.fordrambler.proofs.Surveyed.{of_one, answered, records_left}
-use Rattle.fordrambler.proofs.Fits.{roomy, writing_fits}
+-- `fordrambler::write` meets its contract. Assumes nothing.
+use mathlib.Core.Path.{sym, ap, ◌∙◌}
+use native.Mathlib.Omega.{arith}
+use lib.ListN.{length}
+use Rattle.std.proofs.lemmas.Result.{err_from_is_err_and}
+use Rattle.fordrambler.proofs.Fits.{writing_fits}
+use Rattle.fordrambler.proofs.Leaving.{refused_says, done_says, records_kept, records_filled}
 use Rattle.fordrambler.proofs.write.Goals as goal
+
+pub returns-in_err-sheet : goal.returns-in_err-sheet
+returns-in_err-sheet c =
+    let p = err_from_is_err_and c.from_residual.result c.from_residual.ensures.1 in
+    let w = c.write_core.ensures in
+    let e = sym w.answer ∙ c.in_err-sheet.was in
+    rw (p.1, p.2) (record { says = refused_says e; records = records_kept c.args.records.now e; map = w.map; slots = w.slots })
 
 pub fill-requires : goal.fill-requires
 fill-requires c =
-    let o : Outcome Sheet = writing c.args.table.now (length c.args.records.now) (length c.args.map.now) (length c.args.slots.now) in
-    let s = c.write_core-s.ensures in (
-      roomy o o (s.answer ∙ of_one o) (length c.args.records.now) (writing_fits (length c.args.records.now) c.args.table.now (length c.args.map.now) (length c.args.slots.now)),
-      s.bounds.few,
-    )
+    omega (arith, ap length c.records.ensures.records, writing_fits c.args.table.now (length c.args.records.now) (length c.args.map.now) (length c.args.slots.now) (sym c.write_core.ensures.answer ∙ c.in_ok-sheet.was))
 
 pub returns : goal.returns
 returns c =
-    let o : Outcome Sheet = writing c.args.table.now (length c.args.records.now) (length c.args.map.now) (length c.args.slots.now) in
-    let s = c.write_core-s.ensures in
-    record {
-      says =
-          answered o o (s.answer ∙ of_one o)
-          (writing_numbered c.args.table.now (length c.args.records.now) (length c.args.map.now) (length c.args.slots.now)) c.answer_of.ensures;
-      records = records_left o o (s.answer ∙ of_one o) c.args.records.now c.fill.ensures;
-      map = s.map;
-      slots = s.slots;
-    }
+    let w = c.write_core.ensures in
+    let e = sym w.answer ∙ c.in_ok-sheet.was in
+    record { says = done_says e; records = rw (c.fill.ensures, c.records.ensures.records) (records_filled c.args.records.now e); map = w.map; slots = w.slots }

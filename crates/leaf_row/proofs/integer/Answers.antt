@@ -1,7 +1,19 @@
 -- `leaf_row::integer` meets its contract. Assumes nothing.
-use Rattle.leaf_row.proofs.Fresh.{integer_row}
-use borrow.Author.Rules.{rules}
+use Rattle.std.proofs.Common.{◌≡◌, refl, ◌∙◌, ◌-◌, append-nil, arith, length-append}
+use Rattle.circuit.specs.Circuits.{gates}
+use Rattle.circuit.specs.Numbers.{unknown}
+use Rattle.frame.proofs.Writing.{wrote_nothing}
+use Rattle.leaf_row.proofs.Fresh.{unknown_many, unknown_writes, unknown_more, row_of}
 use Rattle.leaf_row.proofs.integer.Goals as goal
 
+pub loop-preserved : goal.loop-preserved
+loop-preserved c =
+    rw (c.push.ensures, c.fresh.ensures) (omega arith, simp length-append (omega arith), unknown_more c.loop.value c.loop.next c.args.p c.loop.counter c.loop-test.true ∙ c.loop.invariant.2)
+
 pub returns : goal.returns
-returns c = λ z. integer_row z c.args.from c.args.first c.args.p c.variables-bits.ensures c.requires.first_below c.requires.p_least c.requires.p_most
+returns c =
+    let n = c.args.from.next in
+    let p = c.args.p in
+    let e : p - c.loop.counter ≡ 0 = omega arith in
+    let v = rw (e, append-nil) at c.loop.invariant.2 in
+    λ z slots. row_of z (unknown p) (wrote_nothing (gates n (unknown p)) slots (unknown_writes n p) refl (rw (unknown_many n p) (omega arith))) v

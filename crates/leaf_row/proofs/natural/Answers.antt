@@ -1,7 +1,14 @@
 -- `leaf_row::natural` meets its contract. Assumes nothing.
-use Rattle.leaf_row.proofs.Fresh.{natural_row}
-use borrow.Author.Rules.{rules}
+use Rattle.std.proofs.Common.{◌≡◌, ◌∙◌, ap, arith, length, []}
+use Rattle.circuit.specs.Numbers.{unknown}
+use Rattle.leaf_row.proofs.Fresh.{unknown_length, row_value, signed_row}
 use Rattle.leaf_row.proofs.natural.Goals as goal
 
+pub push-requires : goal.push-requires
+push-requires c =
+    let p = c.args.p in
+    let e : length c.integer-made.result.value ≡ p = ap length (row_value 0 (unknown p) (c.integer-made.ensures 0 [])) ∙ unknown_length c.args.from.next p in
+    omega arith
+
 pub returns : goal.returns
-returns c = λ z. natural_row z c.args.from c.args.first c.args.p c.variables-bits.ensures c.requires.first_below c.requires.p_most
+returns c = λ z slots. signed_row z (unknown c.args.p) (c.integer-made.ensures z slots) c.push.ensures

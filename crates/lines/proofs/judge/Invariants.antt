@@ -1,21 +1,16 @@
 -- `lines::judge` meets its contract. Assumes nothing.
 use mathlib.Core.Path.{◌≡◌}
-use mathlib.Core.Bool.{Bool}
-use mathlib.Core.List.{List}
-use Prim.Native.Nat.{ℕ, ◌*◌, ◌-◌, ◌≤◌}
-use lib.ListN.{length, drop}
+use Prim.Native.Nat.{◌+◌, ◌*◌, ◌-◌, ◌≤◌}
+use lib.ListN.{length}
+use Rattle.std.specs.Slice.Iter.{chunks_rest, chunks_size}
 use Rattle.sheet.specs.Texts.{lines_from}
 use Rattle.lines.proofs.judge.Given as goal
 
 -- the lines that are left decide
-pub record Left (text : List ℕ) (blank : Bool) (rows at : ℕ) : Type 0 where
-  pub few : rows ≤ 256
-  pub place : at ≡ 17 * rows
-  pub within : at ≤ length text
-  pub left : lines_from (256 - rows) blank rows (drop at text) ≡ lines_from 256 blank 0 text
-
-abbrev pub invariant-loop-at : goal.invariant-loop-at
-invariant-loop-at l = Left l.text l.blank l.rows l.at
-
-abbrev pub decreases-loop-at : goal.decreases-loop-at
-decreases-loop-at l = length l.text - l.at
+abbrev pub invariant-loop-line : goal.invariant-loop-line
+invariant-loop-line l = record {
+  size : chunks_size l.line-iterator ≡ 17;
+  few : l.rows ≤ 256;
+  place : 17 * l.rows + length (chunks_rest l.line-iterator) ≡ length l.text;
+  left : lines_from (256 - l.rows) l.blank l.rows (chunks_rest l.line-iterator) ≡ lines_from 256 l.blank 0 l.text;
+}

@@ -1,24 +1,12 @@
 -- `literals::widen` meets its contract. Assumes nothing.
-use mathlib.Core.Path.{◌≡◌, ◌∙◌}
-use Prim.Native.Nat.{◌-◌, ◌≤◌}
-use borrow.Author.Rules.{rules}
-use native.Mathlib.Omega.{arith}
-use lib.IntN.{pos}
-use lib.ListN.{length, get_or}
-use Rattle.frame.proofs.Literals.{held_lit}
-use Rattle.literals.proofs.Widening.{extended_is, literals_filled}
+use Rattle.std.proofs.Common.{◌∙◌, arith}
+use Rattle.literals.proofs.Widening.{extended_end, extended_more}
 use Rattle.literals.proofs.widen.Goals as goal
 
-pub returns : goal.returns
-returns c =
-    let s = c in
-    let w = s.args.x.width in
-    let to = s.args.width in
-    let l = s.args.x.bits in
-    let x = s.requires.is_number_x in
-    let sign = get_or l (w - 1) (pos 0) in
-    let n : length l ≡ 48 = search rules in
-    let h : w ≤ length l = omega arith in
-    let lit = x.all (w - 1) (omega arith) in
-    let e = rw (held_lit sign lit) at c.fill.ensures in
-    record { take_is = e ∙ extended_is w to l x.some h; all_lit_width = literals_filled w to l c.fill.result sign h e x.all lit }
+pub loop-preserved : goal.loop-preserved
+loop-preserved c =
+    let item = rw c.literals.ensures.literals at c.in-Some.ensures.item in
+    (omega arith, c.push.ensures ∙ rw c.loop.invariant.1 (extended_more c.loop.counter c.args.x.now c.in-Some.sign.now (omega arith) item.3.0 item.1))
+
+pub returns-after-loop : goal.returns-after-loop
+returns-after-loop c = c.loop.invariant.1 ∙ extended_end c.loop.counter c.args.width c.args.x.now c.loop-test.false c.loop.invariant.0

@@ -1,12 +1,14 @@
 -- `numbers::bits` meets its contract. Assumes nothing.
-use native.Mathlib.Omega.{arith}
-use lib.Count.{leading_le}
+use Rattle.std.proofs.Common.{◌≡◌, arith, pos, to_z, w64}
+use Rattle.std.proofs.lemmas.Int.{ints}
+use Rattle.std.specs.Int.Signed.{mag}
 use Rattle.numbers.proofs.Digits.{fewest_leading, fewest_few}
 use Rattle.numbers.proofs.bits.Goals as goal
-
-pub overflow_sub-result : goal.overflow_sub-result
-overflow_sub-result c = omega (arith, leading_le 32 c.args.n)
+use Rattle.numbers.proofs.bits.Goals.{then-n-lt0, else-n-lt0}
 
 pub returns : goal.returns
 returns c =
-    let e = fewest_leading c.args.n c.ranges.n.fits in record { value = e; few = rw e (fewest_few c.args.n c.ranges.n.fits) }
+    let n = c.args.n in
+    let e : to_z w64 c.if-n-lt0.magnitude-bits ≡ pos (mag n) = elim c.if-n-lt0.branch [ then-n-lt0 w ↦ grind (arith, ints) | else-n-lt0 w ↦ grind (arith, ints) ] in
+    let f = fewest_leading n c.ranges.n.sfits in
+    rw e (record { value = f; few = rw f (fewest_few n c.ranges.n.sfits) })

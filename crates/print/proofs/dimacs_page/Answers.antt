@@ -7,11 +7,11 @@ use Rattle.print.proofs.dimacs_page.Goals as goal
 pub loop-next-init : goal.loop-next-init
 loop-next-init c = left_all _ _ _
 
-pub returns-then-out-size-lt64 : goal.returns-then-out-size-lt64
-returns-then-out-size-lt64 c =
+pub returns-then-out-size-lt-PIECE : goal.returns-then-out-size-lt-PIECE
+returns-then-out-size-lt-PIECE c =
     let s = c.args in
     let many = dimacs_many s.variables s.clauses s.slots.now in
-    let done = left_full c.loop-next.invariant (omega (arith, many)) c.if-out-size-lt64.true in record { answer = done.answer; out = done.text }
+    let done = left_full c.loop-next.invariant (omega (arith, many)) c.if-out-size-lt-PIECE.true in record { answer = done.answer; out = done.text }
 
 pub loop-next-preserved : goal.loop-next-preserved
 loop-next-preserved c =
@@ -24,4 +24,5 @@ pub returns : goal.returns
 returns c =
     let s = c.args in
     let many = dimacs_many s.variables s.clauses s.slots.now in
-    let done = left_end c.loop-next.invariant (omega (arith, many)) in record { answer = done.answer; out = done.text }
+    let done = left_end c.loop-next.invariant (omega (arith, many)) (λ h. omega (arith, many, c.loop-next.auto.next-end)) in
+    record { answer = rw (c.max.ensures, ← many) done.answer; out = done.text }

@@ -1,12 +1,24 @@
 -- `print::refused_line` meets its contract. Assumes nothing.
-use Rattle.sheet.specs.Texts.{refused_line}
-use Rattle.print.proofs.Pieces.{not_printed, all_printed, refused_pair}
+use mathlib.Core.Path.{◌∙◌}
+use Prim.Native.Nat.{ℕ}
+use native.Mathlib.Omega.{arith}
+use lib.ListN.{length-take}
+use Rattle.sheet.specs.Texts.{ascii}
+use Rattle.print.proofs.Pieces.{length_pair, refused_pair}
+use Rattle.print.proofs.Puts.{put_whole}
 use Rattle.print.proofs.refused_line.Goals as goal
 
-pub returns-then-out-lt64 : goal.returns-then-out-lt64
-returns-then-out-lt64 c =
-    let s = c.args in let told = not_printed (refused_line s.number s.place) s.out.now c.if-out-lt64.true in record { answer = told.0; out = told.1 }
+pub slice_bounds-line-end : goal.slice_bounds-line-end
+slice_bounds-line-end c =
+    omega (arith, c.put_pair_line-end.ensures.place, length_pair (ascii "refused ") c.from-number.result c.args.refusal.place)
+
+pub slice_bounds-line_page-end : goal.slice_bounds-line_page-end
+slice_bounds-line_page-end c =
+    let short = length_pair (ascii "refused ") c.from-number.result c.args.refusal.place in
+    omega (arith, c.put_pair_line-end.ensures.place, short, length-take {A = ℕ})
 
 pub returns : goal.returns
 returns c =
-    let s = c.args in let told = all_printed (refused_line s.number s.place) s.out.now c.if-out-lt64.false (rw refused_pair at c.put_pair_line.ensures) in record { answer = told.0; out = told.1 }
+    let number = c.from-number.ensures ∙ c.number.ensures in
+    let line = rw (number, refused_pair) at (put_whole c.put_pair_line-end.ensures) in
+    rw line at c.line_page.ensures

@@ -1,72 +1,77 @@
 -- `product::multiply` meets its contract. Assumes nothing.
-use mathlib.Core.Path.{◌≡◌}
-use mathlib.Core.List.{List}
-use Prim.Native.Nat.{ℕ}
-use borrow.Author.Rules.{rules}
+use mathlib.Core.Path.{◌≡◌, refl, sym, ◌∙◌}
+use mathlib.Core.List.{List, [], ◌∷◌, ◌++◌}
+use mathlib.Core.Logic.{◌⊎◌, inl, inr}
+use Prim.Native.Nat.{ℕ, ◌+◌, ◌<◌}
 use native.Mathlib.Omega.{arith}
-use lib.IntN.{ℤ, pos}
-use lib.ListN.{length, get_or, take}
-use mir.Syntax.{w32}
-use mir.Val.{to_z, of_z}
+use native.Mathlib.Numerals.{add-one}
+use lib.ListN.{length, get_or, drop, length-append, length-drop}
+use lib.Seq.{drop-cons, take_all}
 use Rattle.circuit.specs.Literals.{Lit}
-use Rattle.circuit.specs.Circuits.{Circuit, ◌>>=◌, gates, out}
-use Rattle.circuit.specs.Numbers.{add_rows}
-use Rattle.frame.specs.Literals.{literals, between}
-use Rattle.frame.specs.Written.{Room, Wrote}
-use Rattle.frame.proofs.Literals.{held_lit, literals_above}
-use Rattle.frame.proofs.Writing.{bind_first, bind_next, bind_out, bind_wrote}
-use Rattle.product.specs.Multiplying.{anding, multiplying}
-use Rattle.product.proofs.Turns.{multiplier_is}
+use Rattle.circuit.specs.Numbers.{ands, add_rows, multiplier}
+use Rattle.frame.proofs.Writing.{makes_none, bind_first}
+use Rattle.frame.proofs.Loops.{left_step, filling_all, filling_end}
+use Rattle.product.proofs.Turns.{ands_length, row_length, row_room, row_turn, rows_none}
 use Rattle.product.proofs.multiply.Goals as goal
-use Rattle.product.proofs.multiply.Goals.{After-and_row-p, Start}
+use Rattle.product.proofs.multiply.Goals.{else-loop-bit-test, then-loop-bit-test+in_default-split_first}
 
--- the first row, and the others
-abbrev row : (x y : List ℤ) (width : ℕ) → Circuit (List Lit)
-row x y width = anding x (get_or y 0 (pos 0)) 0 width
+-- the element at i, then those behind it
+next_is : (l : List Lit) (i : ℕ) (x : Lit) → i < length l → x ≡ get_or l i x → drop i l ≡ x ∷ drop (i + 1) l
+next_is l i x h e = rw (add-one, drop-cons l i x h, ← e)
 
-abbrev others : (x y : List ℤ) (width : ℕ) → List Lit → Circuit (List Lit)
-others x y width total = add_rows (between 1 width y) (literals (take width x)) total
+empty_of : (l : List Lit) → length l ≡ 0 → l ≡ []
+empty_of [] h = refl
+empty_of (x ∷ l) h = absurd (omega arith)
 
-module _ (c : Start) where
-  whole : multiplying c.args.x c.args.y c.args.width ≡ (row c.args.x c.args.y c.args.width >>= others c.args.x c.args.y c.args.width)
-  whole =
-      let lx : length c.args.x ≡ 48 = search rules in
-      let ly : length c.args.y ≡ 48 = search rules in
-      multiplier_is c.args.width c.args.x c.args.y c.requires.width_least (omega arith) (omega arith)
+pub returns-in_default : goal.returns-in_default
+returns-in_default c =
+    let e : c.args.y.now ≡ [] = empty_of c.args.y.now c.in_default.ensures.cases in
+    rw (e, c.empty-product.ensures) (makes_none c.args.from [] c.args.slots.now)
 
-  room : Room c.args.from c.args.first (gates c.args.first (row c.args.x c.args.y c.args.width >>= others c.args.x c.args.y c.args.width)) c.args.slots.now
-  room = rw whole at c.requires.room
+pub and_row-total-requires-clause-room : goal.and_row-total-requires-clause-room
+and_row-total-requires-clause-room c =
+    bind_first (ands (length c.args.x.now) c.args.x.now c.in-Some.first.now) (λ total. add_rows c.in-Some.others.now c.args.x.now total) (rw c.in-Some.ensures.cases.0 at c.requires.room)
 
-  held-bit : to_z w32 (of_z w32 (get_or c.args.y 0 (pos 0))) ≡ get_or c.args.y 0 (pos 0)
-  held-bit = held_lit (get_or c.args.y 0 (pos 0)) (c.requires.all_lit_width_y 0 (omega arith))
+pub loop-bit-init : goal.loop-bit-init
+loop-bit-init c =
+    let x = c.args.x.now in
+    let first = c.in-Some.first.now in
+    let others = c.in-Some.others.now in
+    let total = c.and_row-total.ensures in
+    let short = ands_length c.args.from.next (length x) x first in
+    let all = filling_all (multiplier x (first ∷ others)) (rw c.in-Some.ensures.cases.0 at c.requires.room) in
+    rw (c.empty-product.ensures, c.in-Some.ensures.cases.0)
+    (record {
+      few = rw total.value (omega arith);
+      filling = record { left = left_step (ands (length x) x first) (λ t. add_rows others x t) all.left total };
+    })
 
--- what the first call leaves
-module _ (c : After-and_row-p) (e : to_z w32 (of_z w32 (get_or c.args.y 0 (pos 0))) ≡ get_or c.args.y 0 (pos 0)) where
-  wrote : Wrote c.args.from c.args.first (gates c.args.first (row c.args.x c.args.y c.args.width)) c.args.slots.now c.and_row-p.new.slots c.and_row-p.result.at c.and_row-p.result.next
-  wrote = rw e at c.and_row-p.ensures.wrote
+pub add_row-total-requires-clause-room : goal.add_row-total-requires-clause-room
+add_row-total-requires-clause-room c =
+    let bits-is = next_is c.in-Some.others.now c.loop-bit.bit-index c.bit-item.result c.loop-bit-test.true c.bit-item.is in
+    let total-is = sym c.literals.ensures.literals ∙ c.in-Some-split_first.ensures.cases.0 in
+    row_room _ _ _ _ _ (rw (bits-is, total-is) at c.loop-bit.invariant.filling)
 
-  made : literals (take c.args.width c.and_row-p.result.number.bits) ≡ out c.args.first (row c.args.x c.args.y c.args.width)
-  made = literals_above 0 c.args.width c.and_row-p.result.number.bits c.args.x (out c.args.first (row c.args.x c.args.y c.args.width)) (omega arith) (rw e at c.and_row-p.ensures.bits)
+pub loop-bit-preserved : goal.loop-bit-preserved
+loop-bit-preserved c =
+    let bits-is = next_is c.in-Some.others.now c.loop-bit.bit-index c.bit-item.result c.loop-bit-test.true c.bit-item.is in
+    let total-is = sym c.literals.ensures.literals ∙ c.in-Some-split_first.ensures.cases.0 in
+    let few = rw total-is at c.loop-bit.invariant.few in
+    let total = c.add_row-total.ensures in
+    let short = row_length c.loop-bit.total.to.next c.args.x.now c.bit-item.result c.in-Some-split_first.above.now in
+    rw c.push.ensures (record {
+      few = rw (total.value, length-append) (omega arith);
+      filling = row_turn _ _ _ _ _ (rw (bits-is, total-is) at c.loop-bit.invariant.filling) total;
+    })
 
-pub and_row-p-requires-clause-room : goal.and_row-p-requires-clause-room
-and_row-p-requires-clause-room c =
-    let s = (goal.at.and_row-p-requires-clause-room c).Start in
-    rw (held-bit s) (bind_first (row c.args.x c.args.y c.args.width) (others c.args.x c.args.y c.args.width) (room s))
-
-pub add_rows-requires-clause-room : goal.add_rows-requires-clause-room
-add_rows-requires-clause-room c =
-    let s = (goal.at.add_rows-requires-clause-room c).Start in
-    let p = (goal.at.add_rows-requires-clause-room c).After-and_row-p in
-    bind_next (row c.args.x c.args.y c.args.width) (others c.args.x c.args.y c.args.width) (room s) (wrote p (held-bit s)) (made p (held-bit s))
-
-pub returns-clause-wrote : goal.returns-clause-wrote
-returns-clause-wrote c =
-    let s = (goal.at.returns-clause-wrote c).Start in
-    let p = (goal.at.returns-clause-wrote c).After-and_row-p in
-    rw (whole s) (bind_wrote (row c.args.x c.args.y c.args.width) (others c.args.x c.args.y c.args.width) (room s) (wrote p (held-bit s)) (made p (held-bit s)) c.add_rows.ensures.wrote)
-
-pub returns-clause-bits : goal.returns-clause-bits
-returns-clause-bits c =
-    let s = (goal.at.returns-clause-bits c).Start in
-    let p = (goal.at.returns-clause-bits c).After-and_row-p in
-    rw (whole s, bind_out (row c.args.x c.args.y c.args.width) (others c.args.x c.args.y c.args.width) (room s) (wrote p (held-bit s)) (made p (held-bit s))) c.add_rows.ensures.bits
+pub returns : goal.returns
+returns c =
+    let none : (length (drop c.loop-bit.bit-index c.in-Some.others.now) ≡ 0) ⊎ (length c.loop-bit.total.value ≡ 0)
+    = elim c.loop-bit-test.branch [
+      | else-loop-bit-test w ↦ inl (rw length-drop (omega arith))
+      | then-loop-bit-test+in_default-split_first w ↦ inr (rw (← w.literals.ensures.literals) w.in_default-split_first.ensures.cases)
+    ] in
+    let made = filling_end (rw (rows_none _ _ _ none) at c.loop-bit.invariant.filling) in
+    let product-is : c.loop-literal.product ≡ c.loop-bit.product ++ c.loop-bit.total.value
+    = c.loop-literal.invariant ∙ rw (take_all c.loop-literal.literal-index c.literals-literal-items.result.now c.loop-literal-test.false, c.literals-literal-items.ensures.literals) refl in
+    rw product-is made

@@ -1,37 +1,55 @@
 -- `row_lines::value_lines` meets its contract. Assumes nothing.
 use mathlib.Core.Path.{◌≡◌}
-use mathlib.Core.Bool.{false}
-use Prim.Native.Nat.{◌-◌}
+use mathlib.Core.Logic.{inl, inr}
+use Prim.Native.Nat.{ℕ}
 use native.Mathlib.Omega.{arith}
-use borrow.Author.Rules.{rules}
-use lib.IntN.{pos}
-use lib.ListN.{length, get_or}
+use lib.ListN.{length}
+use mir.Syntax.{w64}
+use mir.Val.{SFits}
+use Rattle.std.proofs.Common.{rules}
 use Rattle.std.proofs.lemmas.Int.{to_z-of_z}
-use Rattle.sheet.specs.Values.{boolean}
+use Rattle.std.specs.Iterator.Adapters.{enumerate_source, enumerate_count, zip_first, zip_second}
+use Rattle.std.specs.Slice.Iter.{iter_rest}
+use Rattle.sheet.specs.Values.{fraction}
 use Rattle.sheet.specs.Texts.{value_line}
-use Rattle.table.proofs.Earlier.{zeros}
 use Rattle.print.specs.Put.{Put}
 use Rattle.setting_lines.specs.Settings.{setting_line}
 use Rattle.setting_lines.proofs.Rows.{length_setting}
-use Rattle.row_lines.proofs.Lines.{going_none, going_more, going_end}
-use Rattle.row_lines.proofs.Numbers.{numbers_many, number_at}
+use Rattle.row_lines.specs.Numbers.{over_records}
+use Rattle.row_lines.proofs.Lines.{left_all, left_step, left_none}
+use Rattle.row_lines.proofs.Numbers.{numbers_few, no_records, no_numbers}
 use Rattle.row_lines.proofs.value_lines.Goals as goal
 
 pub loop-i-init : goal.loop-i-init
-loop-i-init c = going_none value_line _ _
+loop-i-init c =
+    let few = numbers_few c.args.records.now c.args.numerators.now in
+    let all = left_all value_line (over_records c.args.records.now c.args.numerators.now) c.args.out.now (omega (arith, few, c.requires)) in
+    grind arith
+
+pub put_setting_line-at-requires : goal.put_setting_line-at-requires
+unfolding over_records
+put_setting_line-at-requires c =
+    let steps = c.in-Some.ensures.steps in
+    let room = rw (steps.0.0, steps.0.1) at c.loop-i.invariant.room in
+    omega (arith, room)
 
 pub loop-i-preserved : goal.loop-i-preserved
-unfolding setting_line
+unfolding over_records setting_line
 loop-i-preserved c =
-    let ns = c.args.numerators.now in
-    let i = c.loop-i.i in
-    let all : length c.args.records ≡ 256 = search rules in
-    let many = numbers_many c.args.records ns (omega arith) in
-    let n = get_or ns i (pos 0) in
-    let line : Put (setting_line i n (get_or c.args.records i zeros).denominator) c.loop-i.at c.loop-i.out c.put_setting_line-at.new.out c.put_setting_line-at.result = grind (arith, to_z-of_z) in
-    let row = number_at c.args.records ns i zeros (boolean false) (omega arith) (omega arith) in
-    going_more value_line c.loop-i.invariant (boolean false) row (omega (arith, many)) (omega (arith, many, c.requires)) (length_setting i _ _) line
+    let steps = c.in-Some.ensures.steps in
+    let n = c.in-Some.numerator.now in
+    let d = c.in-Some.record.now.denominator in
+    let here = rw (steps.0.0, steps.0.1) at c.loop-i.invariant in
+    let fits : SFits w64 n = search rules in
+    let put = rw (steps.1, to_z-of_z w64 n fits, c.from-denominator.ensures) at c.put_setting_line-at.ensures in
+    rw steps.2 (left_step value_line (fraction n d) _ here (length_setting (enumerate_count c.loop-i.i-iterator) n d) put)
 
 pub returns : goal.returns
 returns c =
-    let all : length c.args.records ≡ 256 = search rules in let told = going_end value_line c.loop-i.invariant (omega (arith, numbers_many c.args.records c.args.numerators.now (omega arith))) in record { answer = told.0; out = told.1 }
+    let rows = enumerate_source c.loop-i.i-iterator in
+    let none : length (over_records (iter_rest (zip_first rows)) (iter_rest (zip_second rows))) ≡ 0 = elim c.in-None.ensures.steps.0 [
+      | inl h ↦ no_records _ _ h.1.0
+      | inr h ↦ no_numbers _ _ h.1.0
+    ] in
+    let told = left_none value_line _ none c.loop-i.invariant in
+    record { answer = told.0; out = told.1 }

@@ -1,53 +1,56 @@
 -- `setting_lines::settings_page` meets its contract. Assumes nothing.
-use mathlib.Core.Path.{refl, sym}
-use Prim.Native.Nat.{◌+◌, ◌-◌, ◌/◌, ◌<◌}
+use mathlib.Core.Path.{◌≡◌, sym, ◌∙◌}
+use Prim.Native.Nat.{◌+◌, ◌/◌, ◌<◌, min}
 use native.Mathlib.Omega.{arith}
 use lib.ListN.{length}
-use Rattle.setting_lines.specs.Settings.{table_pieces}
+use Rattle.setting_lines.specs.Settings.{unknowns_in}
 use Rattle.print.proofs.Pages.{left_all, left_step, left_full, left_end}
-use Rattle.setting_lines.proofs.Rows.{pieces_many, piece_fits, unknowns_more, unknowns_few}
+use Rattle.setting_lines.proofs.Rows.{pieces_many, piece_fits, unknowns_more, unknowns_few, truth_bit}
 use Rattle.setting_lines.proofs.settings_page.Goals as goal
 
-pub returns-then-from-rows : goal.returns-then-from-rows
-returns-then-from-rows c =
+pub loop-row-init : goal.loop-row-init
+loop-row-init c = record { number = rw (← c.min.ensures) c.unknowns_before-used.ensures; page = left_all _ _ _ }
+
+pub returns-then-out-size-lt-PIECE : goal.returns-then-out-size-lt-PIECE
+returns-then-out-size-lt-PIECE c =
     let s = c.args in
     let many = pieces_many (length s.table.now / 8) 0 s.table.now s.numerators.now in
-    let done = left_end (left_all (table_pieces s.table.now s.numerators.now) s.from s.out.now) (rw many c.if-from-rows.true) in record { answer = done.answer; out = done.text }
+    let done = left_full c.loop-row.invariant.page (rw many (omega arith)) c.if-out-size-lt-PIECE.true in
+    record { answer = done.answer; out = done.text }
 
-pub loop-next-init : goal.loop-next-init
-loop-next-init c = (refl, record { within = omega arith; number = c.unknowns_before-used.ensures; page = left_all _ _ _ })
-
-pub returns-then-out-size-lt64 : goal.returns-then-out-size-lt64
-returns-then-out-size-lt64 c =
-    let s = c.args in
-    let many = pieces_many (length s.table.now / 8) 0 s.table.now s.numerators.now in
-    let done = left_full c.loop-next.invariant.1.page (rw many (omega arith)) c.if-out-size-lt64.true in record { answer = done.answer; out = done.text }
+pub put_setting-size-requires : goal.put_setting-size-requires
+put_setting-size-requires c =
+    let here : min c.loop-row.row (length c.args.table.now / 8) ≡ c.loop-row.row = omega arith in
+    record { out_room = omega arith; table_room = omega arith; used_is = rw here at c.loop-row.invariant.number }
 
 pub overflow_add-used : goal.overflow_add-used
 overflow_add-used c =
     let table = c.args.table.now in
-    let next = c.loop-next.next in
-    omega (arith, c.loop-next.invariant.1.number, c.asked_at-used.ensures, unknowns_more next table, unknowns_few (next + 1) table)
+    let row = c.loop-row.row in
+    let here : min row (length table / 8) ≡ row = omega arith in
+    let number = rw here at c.loop-row.invariant.number in
+    let one = rw (c.is_unknown_at.ensures, truth_bit) at c.from-used.ensures in
+    omega (arith, number, one, unknowns_more row table, unknowns_few (row + 1) table)
 
-pub loop-next-preserved : goal.loop-next-preserved
-loop-next-preserved c =
+pub loop-row-preserved : goal.loop-row-preserved
+loop-row-preserved c =
     let s = c.args in
     let table = s.table.now in
-    let i = c.loop-next.invariant.1 in
-    let next = c.loop-next.next in
-    let h : next < length table / 8 = omega arith in
+    let row = c.loop-row.row in
+    let h : row < length table / 8 = omega arith in
+    let here : min row (length table / 8) ≡ row = omega arith in
+    let next : min (row + 1) (length table / 8) ≡ row + 1 = omega arith in
+    let number = rw here at c.loop-row.invariant.number in
     let many = pieces_many (length table / 8) 0 table s.numerators.now in
-    let short = piece_fits next (length table / 8) table s.numerators.now h in (
-      c.loop-next.invariant.0,
-      record {
-        within = omega arith;
-        number = rw (c.asked_at-used.ensures, i.number) (sym (unknowns_more next table));
-        page = left_step i.page (rw many h) (omega arith) short c.put_setting-size.ensures;
-      },
-    )
+    let short = piece_fits row (length table / 8) table s.numerators.now h in
+    record {
+      number = rw (next, unknowns_more row table, c.from-used.ensures, truth_bit, c.is_unknown_at.ensures, number);
+      page = left_step c.loop-row.invariant.page (rw many h) (omega arith) short c.put_setting-size.ensures;
+    }
 
 pub returns : goal.returns
 returns c =
     let s = c.args in
     let many = pieces_many (length s.table.now / 8) 0 s.table.now s.numerators.now in
-    let done = left_end c.loop-next.invariant.1.page (rw many (omega arith)) in record { answer = done.answer; out = done.text }
+    let done = left_end c.loop-row.invariant.page (rw many (omega arith)) (λ h. rw many (omega (arith, many, c.loop-row.auto.row-end))) in
+    record { answer = rw c.max.ensures (rw many at done.answer); out = done.text }

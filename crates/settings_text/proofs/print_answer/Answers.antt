@@ -1,4 +1,5 @@
 -- `settings_text::print_answer` meets its contract. Assumes nothing.
+use mathlib.Core.Path.{sym, ◌∙◌}
 use native.Mathlib.Omega.{arith}
 use borrow.Author.Rules.{rules}
 use Rattle.print.proofs.Pieces.{piece_whole}
@@ -6,12 +7,11 @@ use Rattle.settings_text.specs.Replies.{claim_text}
 use Rattle.settings_text.proofs.Taking.{table_printed, table_taken}
 use Rattle.settings_text.proofs.print_answer.Goals as goal
 
-pub returns-then-s-ne0 : goal.returns-then-s-ne0
-returns-then-s-ne0 c =
-    let line = table_printed c.args.all c.args.table.now c.args.rest.now c.fitting-s.ensures.answer c.if-s-ne0.true in
+pub print_claim-requires-clause-taken : goal.print_claim-requires-clause-taken
+print_claim-requires-clause-taken c = rw c.counts.ensures (table_taken c.args.table.now (sym c.fitting.ensures ∙ c.in-Ok.is))
+
+pub returns-in-Err : goal.returns-in-Err
+returns-in-Err c =
+    let line = table_printed c.args.table.now c.args.all c.args.rest.now (sym c.fitting.ensures ∙ c.in-Err.is) in
     let whole = piece_whole (claim_text c.args.all c.args.table.now c.args.rest.now) c.args.out.now (omega (arith, c.requires)) in
     rw (← line, whole) at c.refused_line.ensures
-
-pub print_claim-requires : goal.print_claim-requires
-print_claim-requires c =
-    record { taken_table_variables = table_taken c.args.all c.args.table.now c.fitting-s.ensures.answer c.if-s-ne0.false; out_room = search rules }

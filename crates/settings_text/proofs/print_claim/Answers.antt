@@ -1,5 +1,6 @@
 -- `settings_text::print_claim` meets its contract. Assumes nothing.
-use mathlib.Core.Path.{◌≡◌, sym}
+use Rattle.std.specs.Prelude.{Ok}
+use mathlib.Core.Path.{◌≡◌, sym, ap, ◌∙◌}
 use mathlib.Core.List.{List}
 use Prim.Native.Nat.{ℕ}
 use native.Mathlib.Omega.{arith}
@@ -21,34 +22,34 @@ blank-long = length-replicate {A = ℕ} 10000 0
 
 pub slice_bounds-model-end : goal.slice_bounds-model-end
 slice_bounds-model-end c =
-    let long : length c.read_claim-claim.new.model ≡ 10000 = search rules in
-    omega (arith, taken_few c.requires.taken_table_variables, long)
+    let long : length c.read_claim.new.model ≡ 10000 = search rules in
+    omega (arith, taken_few c.requires.taken, long)
 
 pub slice_bounds-print_model-end : goal.slice_bounds-print_model-end
 slice_bounds-print_model-end c =
-    let long : length c.read_claim-claim.new.model ≡ 10000 = search rules in
-    sym (length-take-le c.args.variables c.read_claim-claim.new.model (omega (arith, taken_few c.requires.taken_table_variables, long)))
+    let long : length c.read_claim.new.model ≡ 10000 = search rules in
+    sym (length-take-le c.args.variables c.read_claim.new.model (omega (arith, taken_few c.requires.taken, long)))
 
-pub print_model-requires : goal.print_model-requires
-print_model-requires c =
-    let r = c.in-Model.ensures in
-    let told = model_told c.args.all c.args.table.now c.args.rest.now c.requires.taken_table_variables blank blank-long r.answer r.model in
-    record { told_table_model = told; out_room = search rules }
+pub print_model-requires-clause-told : goal.print_model-requires-clause-told
+print_model-requires-clause-told c =
+    let e = sym c.read_claim.ensures.answer ∙ c.in-Ok-true.is ∙ ap Ok c.in-Ok-true.field-0-test in
+    model_told c.args.all c.args.table.now c.args.rest.now c.requires.taken blank blank-long e c.read_claim.ensures.model
 
-pub returns-in-Refused : goal.returns-in-Refused
-returns-in-Refused c =
-    let line = refusal_printed c.args.all c.args.table.now c.args.rest.now c.requires.taken_table_variables blank blank-long c.in-Refused.ensures.answer in
-    let whole = piece_whole (claim_text c.args.all c.args.table.now c.args.rest.now) c.args.out.now (omega (arith, c.requires.out_room)) in
-    rw (← line, whole) at c.refused_line.ensures
+pub returns-in-Ok-true : goal.returns-in-Ok-true
+returns-in-Ok-true c =
+    let e = sym c.read_claim.ensures.answer ∙ c.in-Ok-true.is ∙ ap Ok c.in-Ok-true.field-0-test in
+    let text = model_printed c.args.all c.args.table.now c.args.rest.now c.requires.taken blank blank-long e c.read_claim.ensures.model in
+    rw (← text) at c.print_model.ensures
 
-pub returns-in-NoneClaimed : goal.returns-in-NoneClaimed
-returns-in-NoneClaimed c =
-    let line = none_printed c.args.all c.args.table.now c.args.rest.now c.requires.taken_table_variables blank blank-long c.in-NoneClaimed.ensures.answer in
+pub returns-in-Ok-false : goal.returns-in-Ok-false
+returns-in-Ok-false c =
+    let e = sym c.read_claim.ensures.answer ∙ c.in-Ok-false.is ∙ ap Ok c.in-Ok-false.field-0-test in
+    let line = none_printed c.args.all c.args.table.now c.args.rest.now c.requires.taken blank blank-long e in
     let whole = piece_whole (claim_text c.args.all c.args.table.now c.args.rest.now) c.args.out.now (omega (arith, c.requires.out_room)) in
     rw (← line, whole) at c.none_claimed_line.ensures
 
-pub returns-in-Model : goal.returns-in-Model
-returns-in-Model c =
-    let r = c.in-Model.ensures in
-    let text = model_printed c.args.all c.args.table.now c.args.rest.now c.requires.taken_table_variables blank blank-long r.answer r.model in
-    rw (← text) at c.print_model.ensures
+pub returns-in-Err : goal.returns-in-Err
+returns-in-Err c =
+    let line = refusal_printed c.args.all c.args.table.now c.args.rest.now c.requires.taken blank blank-long (sym c.read_claim.ensures.answer ∙ c.in-Err.is) in
+    let whole = piece_whole (claim_text c.args.all c.args.table.now c.args.rest.now) c.args.out.now (omega (arith, c.requires.out_room)) in
+    rw (← line, whole) at c.refused_line.ensures

@@ -1,5 +1,5 @@
 -- `settings_text::print_whole` meets its contract. Assumes nothing.
-use mathlib.Core.Path.{◌≡◌, sym}
+use mathlib.Core.Path.{◌≡◌, sym, ◌∙◌}
 use mathlib.Core.Bool.{true}
 use mathlib.Core.List.{List}
 use Prim.Native.Nat.{ℕ, ◌*◌}
@@ -24,31 +24,31 @@ blank-long = length-replicate {A = ℕ} 2048 0
 
 pub slice_bounds-table-end : goal.slice_bounds-table-end
 slice_bounds-table-end c =
-    let few = found_few true c.args.text.now blank blank-long c.in-Read.found c.in-Read.ensures.answer in
-    let long : length c.read_lines_until_empty-read.new.table ≡ 2048 = search rules in
+    let few = found_few true c.args.text.now blank blank-long c.in-Ok.found (sym c.read_lines_until_empty.ensures.answer ∙ c.in-Ok.is) in
+    let long : length c.read_lines_until_empty.new.table ≡ 2048 = search rules in
     omega (arith, few, long)
 
 pub slice_bounds-print_answer-end : goal.slice_bounds-print_answer-end
 slice_bounds-print_answer-end c =
-    let few = found_few true c.args.text.now blank blank-long c.in-Read.found c.in-Read.ensures.answer in
-    let long : length c.read_lines_until_empty-read.new.table ≡ 2048 = search rules in
-    sym (length-take-le (8 * c.in-Read.found.rows) c.read_lines_until_empty-read.new.table (omega (arith, few, long)))
+    let few = found_few true c.args.text.now blank blank-long c.in-Ok.found (sym c.read_lines_until_empty.ensures.answer ∙ c.in-Ok.is) in
+    let long : length c.read_lines_until_empty.new.table ≡ 2048 = search rules in
+    sym (length-take-le (8 * c.in-Ok.found.rows) c.read_lines_until_empty.new.table (omega (arith, few, long)))
 
 pub slice_bounds-print_answer-count : goal.slice_bounds-print_answer-count
-slice_bounds-print_answer-count c = behind_within c.args.all c.args.text.now blank blank-long c.in-Read.found c.in-Read.ensures.answer
+slice_bounds-print_answer-count c = behind_within c.args.all c.args.text.now blank blank-long c.in-Ok.found (sym c.read_lines_until_empty.ensures.answer ∙ c.in-Ok.is)
 
 pub slice_bounds-print_answer-start : goal.slice_bounds-print_answer-start
-slice_bounds-print_answer-start c = behind_within c.args.all c.args.text.now blank blank-long c.in-Read.found c.in-Read.ensures.answer
+slice_bounds-print_answer-start c = behind_within c.args.all c.args.text.now blank blank-long c.in-Ok.found (sym c.read_lines_until_empty.ensures.answer ∙ c.in-Ok.is)
 
-pub returns-in-Refused : goal.returns-in-Refused
-returns-in-Refused c =
-    let line = lines_printed c.args.all c.args.text.now blank blank-long c.in-Refused.ensures.answer in
+pub returns-in-Ok : goal.returns-in-Ok
+returns-in-Ok c =
+    let text = c.args.text.now in
+    let found = c.in-Ok.found in
+    let e = sym c.read_lines_until_empty.ensures.answer ∙ c.in-Ok.is in
+    rw (found_table true text blank blank-long found e c.read_lines_until_empty.ensures.table, rest_all found.rest text, ← found_printed c.args.all text blank blank-long found e) at c.print_answer.ensures
+
+pub returns-in-Err : goal.returns-in-Err
+returns-in-Err c =
+    let line = lines_printed c.args.all c.args.text.now blank blank-long (sym c.read_lines_until_empty.ensures.answer ∙ c.in-Err.is) in
     let whole = piece_whole (reply (told_by c.args.all) c.args.text.now) c.args.out.now (omega (arith, c.requires)) in
     rw (← line, whole) at c.refused_line.ensures
-
-pub returns-in-Read : goal.returns-in-Read
-returns-in-Read c =
-    let text = c.args.text.now in
-    let found = c.in-Read.found in
-    let r = c.in-Read.ensures in
-    rw (found_table true text blank blank-long found r.answer r.table, rest_all found.rest text, ← found_printed c.args.all text blank blank-long found r.answer) at c.print_answer.ensures

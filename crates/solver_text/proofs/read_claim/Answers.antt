@@ -1,24 +1,53 @@
 -- `solver_text::read_claim` meets its contract. Assumes nothing.
-use Rattle.solver_text.proofs.Answers.{too_short, variables_stand, claim_refused, claim_none, claim_model}
+use mathlib.Core.Path.{◌≡◌, sym, ◌∙◌}
+use native.Mathlib.Omega.{arith}
+use Rattle.std.proofs.Common.{rules}
+use lib.ListN.{length, drop}
+use lib.Seq.{length-take-le}
+use Rattle.frame.proofs.Frames.{rest_all}
+use Rattle.sheet.proofs.Models.{told}
+use Rattle.solver_text.proofs.Answers.{marked, variables_stand, too_short, claim_refused, claim_none, claim_model}
 use Rattle.solver_text.proofs.read_claim.Goals as goal
 
 pub returns-then-model-needed : goal.returns-then-model-needed
 returns-then-model-needed c =
-    let s = c.args in let told = too_short s.variables s.text.now s.model.now c.if-model-needed.true in record { answer = told.0; model = told.1 }
+    let s = c.args in
+    let told = too_short s.variables s.text.now s.model.now c.if-model-needed.true in
+    record { answer = rw c.at.ensures told.0; model = told.1 }
+
+pub returns-in_err-claimed : goal.returns-in_err-claimed
+returns-in_err-claimed c =
+    let s = c.args in
+    let told = claim_refused s.variables s.text.now s.model.now c.if-model-needed.false _ (sym c.in_err-claimed.was ∙ c.judge.ensures) in
+    record { answer = rw (← told.0) (search rules); model = told.1 }
+
+pub slice_bounds-put_model-count : goal.slice_bounds-put_model-count
+slice_bounds-put_model-count c =
+    let s = c.args in
+    marked s.variables s.text.now s.model.now c.if-model-needed.false (rw (c.in_ok-claimed.was, c.if-claimed.true) at c.judge.ensures)
+
+pub slice_bounds-put_model-start : goal.slice_bounds-put_model-start
+slice_bounds-put_model-start c =
+    let s = c.args in
+    marked s.variables s.text.now s.model.now c.if-model-needed.false (rw (c.in_ok-claimed.was, c.if-claimed.true) at c.judge.ensures)
 
 pub put_model-requires : goal.put_model-requires
 put_model-requires c =
-    let s = c.args in record { model_room = c.if-model-needed.false; starts_is = variables_stand s.variables s.text.now (rw c.in-Model.is at c.judge-claim.ensures) }
+    let s = c.args in
+    variables_stand s.variables s.text.now s.model.now c.if-model-needed.false (rw (c.in_ok-claimed.was, c.if-claimed.true) at c.judge.ensures)
 
-pub returns-in-Refused : goal.returns-in-Refused
-returns-in-Refused c =
-    let s = c.args in let told = claim_refused s.variables s.text.now s.model.now c.if-model-needed.false c.judge-claim.result c.judge-claim.ensures _ _ c.in-Refused.is in record { answer = told.0; model = told.1 }
+pub returns-then-claimed : goal.returns-then-claimed
+returns-then-claimed c =
+    let s = c.args in
+    let claim = rw (c.in_ok-claimed.was, c.if-claimed.true) at c.judge.ensures in
+    let many = length-take-le s.variables s.model.now c.if-model-needed.false in
+    let long : length c.put_model.new.model ≡ s.variables = omega (arith, many) in
+    let bytes = rw (rest_all 16 s.text.now, many) at c.put_model.ensures in
+    let told = claim_model s.variables s.text.now s.model.now c.if-model-needed.false c.put_model.new.model long claim bytes in
+    record { answer = rw c.if-claimed.true told.0; model = told.1 }
 
-pub returns-in-NoneClaimed : goal.returns-in-NoneClaimed
-returns-in-NoneClaimed c =
-    let s = c.args in let told = claim_none s.variables s.text.now s.model.now c.if-model-needed.false c.judge-claim.result c.judge-claim.ensures c.in-NoneClaimed.is in record { answer = told.0; model = told.1 }
-
-pub returns-in-Model : goal.returns-in-Model
-returns-in-Model c =
-    let s = c.args in let told = claim_model s.variables s.text.now s.model.now c.if-model-needed.false c.judge-claim.result c.judge-claim.ensures
-    c.put_model.new.model c.in-Model.is c.put_model.ensures in record { answer = told.0; model = told.1 }
+pub returns-else-claimed : goal.returns-else-claimed
+returns-else-claimed c =
+    let s = c.args in
+    let told = claim_none s.variables s.text.now s.model.now c.if-model-needed.false (rw (c.in_ok-claimed.was, c.if-claimed.false) at c.judge.ensures) in
+    record { answer = rw c.if-claimed.false told.0; model = told.1 }

@@ -1,44 +1,27 @@
 -- `write::write_core` meets its contract. Assumes nothing.
+use mathlib.Core.Path.{sym, ◌∙◌}
 use lib.ListN.{length}
-use borrow.Author.Rules.{rules}
-use Rattle.sheet.specs.Calls.{writing, sheet_map, sheet_slots}
-use Rattle.sheet.proofs.Called.{writing_tells}
-use Rattle.table.proofs.Rowwise.{known}
-use Rattle.table.proofs.Answers.{was_accepted, was_refused, left_refused}
-use Rattle.write.proofs.Roomy.{writing_numbered, writable, map_left, slots_left}
+use Rattle.frame.specs.Frame.{front}
+use Rattle.sheet.specs.Calls.{sheet_map, sheet_slots}
+use Rattle.table.proofs.Buffers.{left_refused, left_accepted}
+use Rattle.write.proofs.Fitted.{fitted}
 use Rattle.write.proofs.write_core.Goals as goal
 
-pub returns-then-found-ne0 : goal.returns-then-found-ne0
-returns-then-found-ne0 c =
-    let v = c.fitting-found.ensures in
-    let (n, p, is, e) = was_refused (writing c.args.table.now c.args.records (length c.args.map.now) (length c.args.slots.now)) v.answer c.if-found-ne0.true in
-    record {
-      answer = v.answer;
-      bounds = v.bounds;
-      map = left_refused sheet_map c.args.map.now is;
-      slots = left_refused sheet_slots c.args.slots.now is;
-    }
+pub returns-in_err-sheet-clause-map : goal.returns-in_err-sheet-clause-map
+returns-in_err-sheet-clause-map c = left_refused sheet_map c.args.map.now (sym c.fitting.ensures ∙ c.in_err-sheet.was)
+
+pub returns-in_err-sheet-clause-slots : goal.returns-in_err-sheet-clause-slots
+returns-in_err-sheet-clause-slots c = left_refused sheet_slots c.args.slots.now (sym c.fitting.ensures ∙ c.in_err-sheet.was)
 
 pub write_table-requires : goal.write_table-requires
 write_table-requires c =
-    let v = c.fitting-found.ensures in
-    let table = c.args.table.now in
-    let maps = length c.args.map.now in
-    let slots = length c.args.slots.now in
-    let (sheet, is, e) = was_accepted (writing table c.args.records maps slots) v.answer (writing_numbered table c.args.records maps slots) c.if-found-ne0.false in
-    writable (writing_tells table c.args.records maps slots sheet is) e v.bounds
+    let f = fitted c.args.table.now c.args.records (length c.args.map.now) (length c.args.slots.now) (sym c.fitting.ensures ∙ c.in_ok-sheet.was) in
+    record { accepted = f.accepted; map_room = f.map_room; slot_room = f.slot_room }
 
-pub returns : goal.returns
-returns c =
-    let v = c.fitting-found.ensures in
-    let table = c.args.table.now in
-    let maps = length c.args.map.now in
-    let slots = length c.args.slots.now in
-    let (sheet, is, e) = was_accepted (writing table c.args.records maps slots) v.answer (writing_numbered table c.args.records maps slots) c.if-found-ne0.false in
-    let ok = known (writing_tells table c.args.records maps slots sheet is).is e in
-    record {
-      answer = v.answer;
-      bounds = v.bounds;
-      map = map_left ok is c.args.map.now c.write_table.ensures.map;
-      slots = slots_left ok is c.args.slots.now c.write_table.ensures.slots;
-    }
+pub returns-clause-map : goal.returns-clause-map
+unfolding front
+returns-clause-map c = c.write_table.ensures.map ∙ left_accepted sheet_map c.args.map.now (sym c.fitting.ensures ∙ c.in_ok-sheet.was)
+
+pub returns-clause-slots : goal.returns-clause-slots
+unfolding front
+returns-clause-slots c = c.write_table.ensures.slots ∙ left_accepted sheet_slots c.args.slots.now (sym c.fitting.ensures ∙ c.in_ok-sheet.was)

@@ -1,61 +1,38 @@
 -- `writer::write_rows` meets its contract. Assumes nothing.
-use mathlib.Core.Path.{◌≡◌, sym, ◌∙◌}
-use Prim.Native.Nat.{◌+◌, ◌*◌, ◌≤◌, ◌<◌}
-use native.Mathlib.Omega.{arith}
-use borrow.Author.Rules.{rules}
-use Rattle.sheet.specs.declared.Fields.{Fields}
-use Rattle.table.proofs.Rowwise.{all_bytes, same_read, not_refused}
-use Rattle.writer.proofs.Walking.{walking_none, walking_end, walking_long, walking_row, walking_held, Is, walking_operand, walking_ready, walking_room, walking_next}
+use mathlib.Core.Path.{ap}
+use Prim.Native.Nat.{ℕ}
+use Rattle.sheet.specs.declared.References.{References}
+use Rattle.writer.proofs.Walking.{walking_none, walking_end, walking_held, walking_ready, walking_room, walking_next}
 use Rattle.writer.proofs.write_rows.Goals as goal
-use Rattle.writer.proofs.write_rows.Goals.{After-refer_all-o}
 
 pub loop-r-init : goal.loop-r-init
-loop-r-init c = walking_none _ _ _ _ _ c.requires
+loop-r-init c = walking_none c.requires.accepted c.args.map.now c.args.slots.now c.requires.slot_room
 
-pub read_at-requires : goal.read_at-requires
-read_at-requires c = omega (arith, c.loop-r-test.true, all_bytes c.loop-r.invariant.ok.table_is)
+pub refer_all-of-requires-clause-held_x : goal.refer_all-of-requires-clause-held_x
+refer_all-of-requires-clause-held_x c = walking_held c.requires.accepted c.loop-r.invariant c.rows-f-items.ensures.rows c.records-records.ensures.records c.loop-r-test.true c.requires.map_room _ _ (ap (λ (u : References ℕ). u.x) c.places-at.ensures)
 
-pub returns-in_default : goal.returns-in_default
-returns-in_default c = absurd (not_refused (sym (walking_row c.loop-r.invariant c.loop-r-test.true).read ∙ sym c.read_at.ensures.answer ∙ c.in_default.is))
+pub refer_all-of-requires-clause-held_y : goal.refer_all-of-requires-clause-held_y
+refer_all-of-requires-clause-held_y c = walking_held c.requires.accepted c.loop-r.invariant c.rows-f-items.ensures.rows c.records-records.ensures.records c.loop-r-test.true c.requires.map_room _ _ (ap (λ (u : References ℕ). u.y) c.places-at.ensures)
 
-pub refer_all-o-requires : goal.refer_all-o-requires
-refer_all-o-requires c =
-    let i = c.loop-r.invariant in
-    let h = c.loop-r-test.true in
-    let g = c.in-Read.f in
-    (rw c.place-x.ensures.answer (walking_held i h g.x), (rw c.place-y.ensures.answer (walking_held i h g.y), rw c.place-z.ensures.answer (walking_held i h g.z)))
+pub refer_all-of-requires-clause-held_z : goal.refer_all-of-requires-clause-held_z
+refer_all-of-requires-clause-held_z c = walking_held c.requires.accepted c.loop-r.invariant c.rows-f-items.ensures.rows c.records-records.ensures.records c.loop-r-test.true c.requires.map_room _ _ (ap (λ (u : References ℕ). u.z) c.places-at.ensures)
 
--- ---- a row was read, and its operands stand
-module _ (s : After-refer_all-o) where
-  is_row : (walking_row s.loop-r.invariant s.loop-r-test.true).fields ≡ s.in-Read.f
-  is_row = same_read (sym (walking_row s.loop-r.invariant s.loop-r-test.true).read ∙ sym s.read_at.ensures.answer ∙ s.in-Read.is)
+pub write_row-made-requires-clause-ready : goal.write_row-made-requires-clause-ready
+write_row-made-requires-clause-ready c =
+    let v = c.refer_all-of.ensures in
+    walking_ready c.requires.accepted c.loop-r.invariant c.rows-f-items.ensures.rows c.records-records.ensures.records c.loop-r-test.true c.requires.map_room c.places-at.ensures v.x v.y v.z
 
-  abbrev named : Fields
-  named = s.in-Read.f
-
-  left : Is s.loop-r.invariant s.loop-r-test.true named.x s.refer_all-o.result.a
-  left = walking_operand s.loop-r.invariant s.loop-r-test.true named.x (rw s.place-x.ensures.answer at s.refer_all-o.ensures.x)
-
-  right : Is s.loop-r.invariant s.loop-r-test.true named.y s.refer_all-o.result.b
-  right = walking_operand s.loop-r.invariant s.loop-r-test.true named.y (rw s.place-y.ensures.answer at s.refer_all-o.ensures.y)
-
-  third : Is s.loop-r.invariant s.loop-r-test.true named.z s.refer_all-o.result.c
-  third = walking_operand s.loop-r.invariant s.loop-r-test.true named.z (rw s.place-z.ensures.answer at s.refer_all-o.ensures.z)
-
-pub write_row-made-requires : goal.write_row-made-requires
-write_row-made-requires c =
-    let s = (goal.at.write_row-made-requires c).After-refer_all-o in
-    record {
-      ready_f_a_b_c = walking_ready c.loop-r.invariant c.loop-r-test.true (is_row s) (left s) (right s) (third s);
-      room = walking_room c.loop-r.invariant c.loop-r-test.true (is_row s) (left s) (right s) (third s);
-    }
+pub write_row-made-requires-clause-room : goal.write_row-made-requires-clause-room
+write_row-made-requires-clause-room c =
+    let v = c.refer_all-of.ensures in
+    walking_room c.requires.accepted c.loop-r.invariant c.rows-f-items.ensures.rows c.records-records.ensures.records c.loop-r-test.true c.requires.map_room c.places-at.ensures v.x v.y v.z
 
 pub loop-r-preserved : goal.loop-r-preserved
 loop-r-preserved c =
-    let s = (goal.at.loop-r-preserved c).After-refer_all-o in
-    walking_next c.loop-r.invariant c.loop-r-test.true (is_row s) (left s) (right s) (third s) c.write_row-made.ensures c.store.ensures
+    let v = c.refer_all-of.ensures in
+    walking_next c.requires.accepted c.loop-r.invariant c.rows-f-items.ensures.rows c.records-records.ensures.records c.loop-r-test.true c.requires.map_room c.places-at.ensures v.x v.y v.z c.write_row-made.ensures c.store.ensures
 
 pub returns : goal.returns
 returns c =
-    let told = walking_end c.loop-r.invariant (omega arith) in
-    record { slots_is = told.0; result_is = told.1.0; map = told.1.1 }
+    let (slots, end, map) = walking_end c.requires.accepted c.loop-r.invariant (rw c.rows-f-items.ensures.rows at c.loop-r-test.false) in
+    record { slots = slots; end = end; map = map }

@@ -1,2 +1,0 @@
--- Laws of numerators in 64 bits. Assumes nothing.
-pub mod Words

@@ -1,2 +1,0 @@
--- What Boolean rows make: one literal. Assumes nothing.
-pub mod Lone

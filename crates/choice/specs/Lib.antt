@@ -1,2 +1,0 @@
--- What the contract of choice says. Assumes nothing.
-pub mod Choosing

@@ -1,2 +1,0 @@
--- What is known of a table and values that are evaluated. Assumes nothing.
-pub mod Evaluable

@@ -1,3 +1,0 @@
--- A table whose rows are extended. Assumes nothing.
-pub mod Extendable
-pub mod Referred

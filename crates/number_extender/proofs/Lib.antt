@@ -1,2 +1,0 @@
--- Laws of numbers that are extended. Assumes nothing.
-pub mod Read

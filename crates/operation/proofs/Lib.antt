@@ -1,2 +1,0 @@
--- Laws of numbers brought to one width. Assumes nothing.
-pub mod Widened

@@ -1,2 +1,0 @@
--- Where a row's slots are found. Assumes nothing.
-pub mod Finding

@@ -1,2 +1,0 @@
--- Laws of rows that are extended. Assumes nothing.
-pub mod Tracing
