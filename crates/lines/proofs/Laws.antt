@@ -2,22 +2,19 @@
 use mathlib.Core.Path.{◌≡◌, refl, sym, ap, ◌∙◌}
 use mathlib.Core.Bool.{Bool, true, false, ◌&&◌, false≢true, and_assoc, and-eq-true_iff}
 use mathlib.Core.List.{List, [], ◌∷◌, ◌++◌, append_assoc, append-nil}
-use Prim.Native.Nat.{ℕ, zero, suc, ◌+◌, ◌*◌, ◌-◌, ◌%◌, ◌≤◌, ◌<◌, min, max}
+use Prim.Native.Nat.{ℕ, zero, suc, ◌+◌, ◌*◌, ◌-◌, ◌%◌, ◌≤◌, ◌<◌}
 use native.Mathlib.Nat.{sub-zero}
 use native.Mathlib.Numerals.{add-one}
-use native.Mathlib.Decide.{dec_lt}
 use native.Mathlib.Omega.{arith}
 use lib.Dec.{ltb, eqb}
-use lib.ListN.{length, get_or, set, take, drop, length-append, length-drop}
-use lib.Seq.{drop-cons, drop-drop, get_or-drop, take_all, drop_at}
-use Rattle.std.proofs.lemmas.Bool.Decides.{nat_tests}
+use lib.ListN.{length, get_or, set, take, drop, length-drop}
+use lib.Seq.{drop-cons, drop-drop, get_or-drop, take_all}
 use borrow.Rule.Slice.PartMut.{put_mid}
 use Rattle.frame.specs.Frame.{front, over}
 use Rattle.frame.proofs.Frames.{over_zero, over_none, over_over, lent_part}
 use Rattle.std.proofs.lemmas.Grind.{common_steps}
-use Rattle.std.proofs.lemmas.List.{nil_from_length, get_or_append_left}
 use Rattle.whole.specs.Tests.{if◌then◌otherwise◌}
-use Rattle.std.specs.Prelude.{Ok}
+use Rattle.std.specs.Prelude.{Ok, Some, None, slice_get}
 use Rattle.sheet.specs.declared.LinesFound.{LinesFound}
 use Rattle.sheet.proofs.Called.{refused_not, same_accepted}
 use Rattle.sheet.specs.declared.Reason.TheVariants.{TooManyRows, BadLine}
@@ -42,17 +39,13 @@ begins_short text h = by (begins_line 16 text) refl
     by true e = absurd (omega (arith, begins_long 16 text e))
     by false e = refl
 
-both_below : (m n : ℕ) → ltb (max m n) 16 ≡ (ltb m 16 && ltb n 16)
-both_below m n = grind (arith, nat_tests)
-
-module _ (text : List ℕ) (i most : ℕ) (k : i < length text) where
-  -- the largest nibble so far and what is left of the line decide
-  pub begins_next : i < 16 → (ltb (max most (nibble (get_or text i 0))) 16 && begins_line (16 - (i + 1)) (drop (i + 1) text)) ≡ (ltb most 16 && begins_line (16 - i) (drop i text))
+module _ (text : List ℕ) (i : ℕ) (k : i < length text) where
+  -- whether all digits so far are good and what is left of the line decide
+  pub begins_next : (good : Bool) → i < 16 → ((good && ltb (nibble (get_or text i 0)) 16) && begins_line (16 - (i + 1)) (drop (i + 1) text)) ≡ (good && begins_line (16 - i) (drop i text))
   unfolding begins_line
-  begins_next h =
+  begins_next good h =
       let n : 16 - i ≡ suc (16 - (i + 1)) = omega arith in
-      rw (n, drop-cons text i 0 k, add-one, both_below most (nibble (get_or text i 0)))
-      (and_assoc (ltb most 16) (ltb (nibble (get_or text i 0)) 16) (begins_line (16 - suc i) (drop (suc i) text)))
+      rw (n, drop-cons text i 0 k, add-one) (and_assoc good (ltb (nibble (get_or text i 0)) 16) (begins_line (16 - suc i) (drop (suc i) text)))
 
   pub begins_last : i ≡ 16 → begins_line (16 - i) (drop i text) ≡ eqb (get_or text i 0) 10
   unfolding begins_line
@@ -60,74 +53,45 @@ module _ (text : List ℕ) (i most : ℕ) (k : i < length text) where
       let n : 16 - i ≡ zero = omega arith in
       rw (n, drop-cons text i 0 k)
 
--- what stands behind 16 bytes and one more says nothing
-begins_front : (k : ℕ) (line tail : List ℕ) → k < length line → begins_line k (line ++ tail) ≡ begins_line k line
-unfolding begins_line
-begins_front k [] tail h = absurd (omega arith)
-begins_front zero (b ∷ line) tail h = refl
-begins_front (suc k) (b ∷ line) tail h = ap (λ (t : Bool). ltb (nibble b) 16 && t) (begins_front k line tail (omega arith))
+-- ---- line by line
+pub first_is : (rest : List ℕ) (b : ℕ) → Some b ≡ slice_get rest 0 → rest ≡ b ∷ drop 1 rest
+first_is [] b e = absurd cc
+first_is (x ∷ rest) b e =
+    let same : b ≡ x = cc in
+    ap (λ (c : ℕ). c ∷ rest) (sym same)
 
--- ---- line by line: the next 17 bytes of a text, or all that it has
-pub record Cut (rest line tail : List ℕ) : Type 0 where
-  pub parts : rest ≡ line ++ tail
-  pub long : length line ≡ min 17 (length rest)
-  pub some : 0 < length rest
+pub none_is : (rest : List ℕ) → None ≡ slice_get rest 0 → rest ≡ []
+none_is [] e = refl
+none_is (x ∷ rest) e = absurd cc
 
-pub cut_by : {rest line tail : List ℕ} {size : ℕ} → size ≡ 17 → (rest ≡ line ++ tail) × (length line ≡ min size (length rest)) × (0 < length rest) → Cut rest line tail
-cut_by e h = record { parts = h.0; long = rw e at h.1; some = h.2 }
+-- n lines are passed, and the rest begins with b
+module _ (blank : Bool) (n b : ℕ) (rest : List ℕ) (first : rest ≡ b ∷ drop 1 rest) where
+  pub lines_ended : (more : ℕ) → blank ≡ true → b ≡ 10 → lines_from more blank n rest ≡ lines n (17 * n + 1) true
+  unfolding lines_from
+  lines_ended zero t e = rw (first, t, e)
+  lines_ended (suc more) t e = rw (first, t, e)
 
-module _ {rest line tail : List ℕ} (cut : Cut rest line tail) where
-  begins_cut : begins_line 16 rest ≡ begins_line 16 line
-  begins_cut = by (dec_lt 16 (length line))
-    where
-      by : Dec (16 < length line) → begins_line 16 rest ≡ begins_line 16 line
-      by (yes h) = rw cut.parts (begins_front 16 line tail h)
-      by (no h) =
-          let l = simp length-append at (ap length cut.parts) in
-          let none : tail ≡ [] = nil_from_length tail (omega (arith, l, cut.long)) in
-          rw (cut.parts, none, append-nil)
-
-  first : rest ≡ get_or line 0 0 ∷ drop 1 rest
-  first =
-      let l = simp length-append at (ap length cut.parts) in
-      let here : get_or rest 0 0 ≡ get_or line 0 0 = rw (cut.parts, get_or_append_left line tail 0 0 (omega (arith, l, cut.long, cut.some))) in
-      drop-cons rest 0 0 cut.some ∙ ap (λ (b : ℕ). b ∷ drop 1 rest) here
-
-  whole : begins_line 16 line ≡ true → drop 17 rest ≡ tail
-  whole e =
-      let n : length line ≡ 17 = omega (arith, begins_long 16 line e, cut.long) in
-      rw cut.parts (drop_at line tail 17 n)
-
-  pub whole_long : begins_line 16 line ≡ true → length rest ≡ 17 + length tail
-  whole_long e = omega (arith, simp length-append at (ap length cut.parts), begins_long 16 line e, cut.long)
-
-  module _ (blank : Bool) (n : ℕ) where
-    pub lines_ended : (more : ℕ) → blank ≡ true → get_or line 0 0 ≡ 10 → lines_from more blank n rest ≡ lines n (17 * n + 1) true
+  module _ (goes : (blank && eqb b 10) ≡ false) where
+    pub lines_full : 256 ≤ n → lines_from (256 - n) blank n rest ≡ refused TooManyRows 0
     unfolding lines_from
-    lines_ended zero b e = rw (first, b, e)
-    lines_ended (suc more) b e = rw (first, b, e)
+    lines_full h =
+        let none : 256 - n ≡ zero = omega arith in
+        rw (none, first, goes)
 
-    module _ (goes : (blank && eqb (get_or line 0 0) 10) ≡ false) where
-      pub lines_full : 256 ≤ n → lines_from (256 - n) blank n rest ≡ refused TooManyRows 0
-      unfolding lines_from
-      lines_full h =
-          let none : 256 - n ≡ zero = omega arith in
-          rw (none, first, goes)
+    pub lines_bad : n < 256 → begins_line 16 rest ≡ false → lines_from (256 - n) blank n rest ≡ refused BadLine n
+    unfolding lines_from
+    lines_bad h e =
+        let more : 256 - n ≡ suc (256 - (n + 1)) = omega arith in
+        let bad : begins_line 16 (b ∷ drop 1 rest) ≡ false = rw (← first) e in
+        rw (more, first, goes, bad)
 
-      pub lines_bad : n < 256 → begins_line 16 line ≡ false → lines_from (256 - n) blank n rest ≡ refused BadLine n
-      unfolding lines_from
-      lines_bad h e =
-          let more : 256 - n ≡ suc (256 - (n + 1)) = omega arith in
-          let bad : begins_line 16 (get_or line 0 0 ∷ drop 1 rest) ≡ false = rw (← first, begins_cut, e) in
-          rw (more, first, goes, bad)
-
-      pub lines_more : n < 256 → begins_line 16 line ≡ true → lines_from (256 - n) blank n rest ≡ lines_from (256 - (n + 1)) blank (n + 1) tail
-      unfolding lines_from
-      lines_more h e =
-          let more : 256 - n ≡ suc (256 - (n + 1)) = omega arith in
-          let good : begins_line 16 (get_or line 0 0 ∷ drop 1 rest) ≡ true = rw (← first, begins_cut, e) in
-          let next : drop 17 (get_or line 0 0 ∷ drop 1 rest) ≡ tail = rw (← first) (whole e) in
-          rw (more, first, goes, good, next)
+    pub lines_more : n < 256 → begins_line 16 rest ≡ true → lines_from (256 - n) blank n rest ≡ lines_from (256 - (n + 1)) blank (n + 1) (drop 17 rest)
+    unfolding lines_from
+    lines_more h e =
+        let more : 256 - n ≡ suc (256 - (n + 1)) = omega arith in
+        let good : begins_line 16 (b ∷ drop 1 rest) ≡ true = rw (← first) e in
+        let next : drop 17 (b ∷ drop 1 rest) ≡ drop 17 rest = rw (← first) in
+        rw (more, first, goes, good, next)
 
 pub lines_none : (more : ℕ) (blank : Bool) (n : ℕ) → lines_from more blank n [] ≡ lines n (17 * n) false
 unfolding lines_from

@@ -12,4 +12,4 @@ loop-byte-preserved c =
     let i = c.loop-byte.byte-index in
     let h : i < 16 = omega (arith, length-take 16 text) in
     let k : i < length text = omega (arith, length-take 16 text) in
-    rw (c.max-most.ensures, c.nibble.ensures.value, get_or-take 16 text i 0 h, begins_next text i c.loop-byte.most k h) c.loop-byte.invariant
+    rw (c.is_digit-good.ensures, get_or-take 16 text i 0 h, begins_next text i k c.loop-byte.good h) c.loop-byte.invariant
