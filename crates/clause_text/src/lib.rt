@@ -57,6 +57,6 @@ pub fn clause_text(input: &[u8], out: &mut [u8]) -> usize
     let mut slots = [0i32; 16384];
     match clauses_in(program::used(input), &mut map, &mut slots) {
         Ok(counts) => print_clauses(counts, &slots, out),
-        Err(refusal) => print::refused_line(refusal, out),
+        Err(refusal) => print::refusal_line(refusal, out),
     }
 }

@@ -7,15 +7,18 @@ ghost use Rattle.frame.specs.Frame.{front};
 ghost use Rattle.sheet.specs.Programs.{costs_program};
 ghost use Rattle.cost_text.specs.Costs.{cost_text};
 
+use table::Sheet;
+
 // What the rows of a table cost, over the front of out; how many bytes it has.
 fn print_costs(table: &[u8], out: &mut [u8]) -> usize
     requires { 16448 ≤ length out.old }
     ensures answer { result ≡ length (cost_text table.now) }
     ensures out { out.new ≡ front (cost_text table.now) out.old }
 {
-    match table::survey(table) {
-        Ok(sheet) => row_lines::cost_lines(sheet.records(), out),
-        Err(refusal) => print::refused_line(refusal, out),
+    let mut sheet = Sheet::start();
+    match table::read(&mut sheet, table) {
+        Ok(()) => row_lines::cost_lines(sheet.records(), out),
+        Err(refusal) => print::refusal_line(refusal, out),
     }
 }
 
@@ -29,6 +32,6 @@ pub fn cost_text(input: &[u8], out: &mut [u8]) -> usize
     let mut table = [0u8; 2048];
     match lines::read_lines(program::used(input), &mut table) {
         Ok(found) => print_costs(&table[..8 * found.rows as usize], out),
-        Err(refusal) => print::refused_line(refusal, out),
+        Err(refusal) => print::refusal_line(refusal, out),
     }
 }

@@ -1,6 +1,6 @@
 -- The refusals of decoding before anything is written, 16 to 18 behind those of writing. Assumes nothing.
-use Rattle.std.specs.Prelude.{Ok, Err, Some, None}
-use mathlib.Core.Path.{◌≡◌, refl, sym, ◌∙◌, subst}
+use Rattle.std.specs.Prelude.{Ok, Some, None}
+use mathlib.Core.Path.{◌≡◌, subst}
 use mathlib.Core.Bool.{not}
 use mathlib.Core.List.{List}
 use Prim.Native.Nat.{ℕ, ◌+◌, ◌≤◌, ◌<◌}

@@ -9,7 +9,6 @@ use native.Mathlib.Omega.{arith}
 use lib.IntN.{ℤ}
 use lib.ListN.{length, take, drop, length-append}
 use lib.Seq.{take_at}
-use Rattle.circuit.specs.Literals.{Clause}
 use Rattle.sheet.specs.declared.Reason.TheVariants.{FalseClause}
 use Rattle.sheet.specs.declared.Refusal.{Refusal}
 use Rattle.sheet.specs.Acceptance.{Outcome, Sheet}

@@ -1,5 +1,5 @@
 -- The settings written row by row: what the loop knows, a row more, and the end. Assumes nothing.
-use mathlib.Core.Path.{◌≡◌, refl, sym, ap, ◌∙◌}
+use mathlib.Core.Path.{◌≡◌, sym, ap, ◌∙◌}
 use mathlib.Core.Bool.{Bool, true, false}
 use mathlib.Core.List.{List, [], ◌∷◌, ◌++◌}
 use Prim.Native.Nat.{ℕ, ◌+◌, ◌*◌, ◌≤◌, ◌<◌}
@@ -13,7 +13,7 @@ use Rattle.sheet.specs.declared.Record.{Record}
 use Rattle.sheet.specs.Rows.{uses, is_unknown}
 use Rattle.sheet.specs.Values.{Value, numerator, unknowns}
 use Rattle.sheet.specs.Acceptance.{record_at, Sheet}
-use Rattle.sheet.specs.Steps.{cells, map_for, read_each, read_rows, of_unknowns, settings}
+use Rattle.sheet.specs.Steps.{cells, read_each, read_rows, of_unknowns, settings}
 use Rattle.sheet.specs.Calls.{assigned, settings_of, unknown_count}
 use Rattle.frame.specs.Frame.{front, over}
 use Rattle.frame.proofs.Frames.{over_none, over_zero, over-set}

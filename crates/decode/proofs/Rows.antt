@@ -13,7 +13,6 @@ use Rattle.circuit.specs.Literals.{Lit, plus, minus, falsity, slot}
 use Rattle.circuit.specs.Circuits.{gates}
 use Rattle.circuit.specs.Counting.{the_first}
 use Rattle.circuit.proofs.Bounds.{bound}
-use Rattle.sheet.specs.declared.Fields.{Fields}
 use Rattle.sheet.specs.declared.Record.{Record}
 use Rattle.sheet.specs.Rows.{uses, is_unknown}
 use Rattle.sheet.specs.Values.{numerator}

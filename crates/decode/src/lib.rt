@@ -2,10 +2,12 @@
 // anything is written, 19 over the slots that were written, and only then are the settings written.
 #![tactic(auto)]
 
-ghost use Rattle.std.specs.Prelude.{◌≡◌, ◌≤◌, length};
+ghost use Rattle.std.specs.Prelude.{◌≡◌, ◌≤◌, length, IfOk};
 ghost use Rattle.sheet.specs.Calls as Calls;
-ghost use Rattle.sheet.specs.Calls.{decoding, left, sheet_map, sheet_slots, settings_of, unknown_count};
+ghost use Rattle.sheet.specs.Calls.{◌giving◌, decoding, left, sheet_map, sheet_slots, settings_of, unknown_count};
 ghost use Rattle.frame.specs.Frame.{front};
+ghost use Rattle.table.specs.Bounds.{InBounds};
+ghost use Rattle.table.specs.Surveys.{no_rows};
 ghost use Rattle.decode.specs.Tried.{sheet_tried, outcome_of};
 ghost use Rattle.decode.specs.Written.{Written};
 
@@ -13,25 +15,28 @@ use sheet::{Reason, Refusal};
 use table::Sheet;
 
 // An accepted table on whose clauses a model was tried: the first one that it makes false, from 1, if there is one.
-#[derive(Drop)]
+#[derive(Clone, Copy)]
 pub struct Tried {
     pub sheet: Sheet,
     pub false_clause: Option<usize>,
 }
 
-// The sheet of a table that a model is to be decoded for: refusals 1 to 13 and 16 to 18.
+// Reads a table that a model is to be decoded for: refusals 1 to 13 and 16 to 18.
 #[tactic(auto, unfolding(sheet::specs::Calls::decodable))]
-pub fn decodable(
+fn read_decodable(
+    sheet: &mut Sheet,
     table: &[u8],
     records: usize,
     map: usize,
     slots: usize,
     model: &[u8],
     values: usize,
-) -> Result<Sheet, Refusal>
-    ensures { result ≡ Calls.decodable table.now records map slots model.now values }
+) -> Result<(), Refusal>
+    requires { sheet.old ≡ no_rows }
+    ensures answer { (result giving λ _. sheet.new) ≡ Calls.decodable table.now records map slots model.now values }
+    ensures bounds { IfOk result (λ _. InBounds sheet.new) }
 {
-    let sheet = write::fitting(table, records, map, slots)?;
+    write::read_fitting(sheet, table, records, map, slots)?;
     let counts = sheet.counts();
     let variables = counts.variables as usize;
     if model.len() != variables {
@@ -44,6 +49,23 @@ pub fn decodable(
     if values < unknowns {
         return Err(Reason::ShortBuffer.at(unknowns));
     }
+    Ok(())
+}
+
+// The sheet of a table that a model is to be decoded for.
+pub fn decodable(
+    table: &[u8],
+    records: usize,
+    map: usize,
+    slots: usize,
+    model: &[u8],
+    values: usize,
+) -> Result<Sheet, Refusal>
+    ensures answer { result ≡ Calls.decodable table.now records map slots model.now values }
+    ensures bounds { IfOk result InBounds }
+{
+    let mut sheet = Sheet::start();
+    read_decodable(&mut sheet, table, records, map, slots, model, values)?;
     Ok(sheet)
 }
 
@@ -75,11 +97,21 @@ pub fn decode_core(
 ) -> Result<Tried, Refusal>
     ensures sheet { sheet_tried result ≡ Calls.decodable table.now records (length map.old) (length slots.old) model.now (length values.old) }
     ensures answer { outcome_of result ≡ decoding table.now records (length map.old) (length slots.old) model.now (length values.old) }
+    ensures bounds { IfOk result (λ tried. InBounds tried.sheet) }
     ensures map { map.new ≡ left (Calls.decodable table.now records (length map.old) (length slots.old) model.now (length values.old)) sheet_map map.old }
     ensures slots { slots.new ≡ left (Calls.decodable table.now records (length map.old) (length slots.old) model.now (length values.old)) sheet_slots slots.old }
     ensures values { values.new ≡ left (decoding table.now records (length map.old) (length slots.old) model.now (length values.old)) (settings_of model.now) values.old }
 {
-    let sheet = decodable(table, records, map.len(), slots.len(), model, values.len())?;
+    let mut sheet = Sheet::start();
+    read_decodable(
+        &mut sheet,
+        table,
+        records,
+        map.len(),
+        slots.len(),
+        model,
+        values.len(),
+    )?;
     write::write_table(&sheet, map, slots);
     let written = sheet.counts().slots as usize;
     let false_clause = assign::first_false(&slots[..written], model);

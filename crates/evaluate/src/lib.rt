@@ -49,7 +49,8 @@ pub fn evaluate(table: &[u8], values: &[i64], results: &mut [i64]) -> Result<(),
     ensures answer { result ≡ done (evaluating table.now values.now (length results.old)) }
     ensures results { results.new ≡ left (evaluating table.now values.now (length results.old)) (results_of values.now) results.old }
 {
-    let sheet = choose::choose(table, values)?;
+    let mut sheet = Sheet::start();
+    choose::read_chosen(&mut sheet, table, values)?;
     let rows = sheet.rows().len();
     if results.len() < rows {
         return Err(Reason::ShortBuffer.at(rows));

@@ -41,7 +41,7 @@ fn half(v: i64) -> i64
 fn majority(a: bool, b: bool, c: bool) -> bool
     ensures { result ≡ maj_of a b c }
 {
-    if a { b || c } else { b && c }
+    if a == b { a } else { c }
 }
 
 // x where the lowest bit of y is 1.

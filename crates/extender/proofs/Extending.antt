@@ -15,7 +15,7 @@ use mir.Val.{of_z}
 use Rattle.whole.specs.Bits.{bit}
 use Rattle.sheet.specs.declared.Reason.TheVariants.{ShortBuffer}
 use Rattle.sheet.specs.declared.Refusal.{Refusal}
-use Rattle.sheet.specs.Values.{Value, boolean, numerator, value_at, row_values, Chosen}
+use Rattle.sheet.specs.Values.{boolean, numerator, value_at, row_values, Chosen}
 use Rattle.sheet.specs.Acceptance.{refused, Sheet, accept}
 use Rattle.sheet.specs.Steps.{extension}
 use Rattle.sheet.specs.Calls.{choosing, extending, model_of, constraint}

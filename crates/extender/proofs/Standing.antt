@@ -33,10 +33,9 @@ use Rattle.number_extender.specs.declared.Operand.{Operand}
 use Rattle.number_extender.specs.Operands.{IsNumber, Meeting}
 use Rattle.row_extender.specs.Ready.{of_sort, value_of, trace_over, IsBoolean, Ready}
 
--- an operand for row x: its record, which is among the earlier ones, and its value's numerator
-pub record Stands (earlier records : List Record) (values : List Value) (x : ℕ) (o : Operand) : Type 0 where
+-- an operand for row x: its record among the earlier ones and its value's numerator; it is false if x is not earlier
+pub record Stands (earlier : List Record) (values : List Value) (x : ℕ) (o : Operand) : Type 0 where
   pub is_record : o.record ≡ record_at earlier x
-  pub is_own : o.record ≡ record_at records x
   pub is_numerator : o.numerator ≡ numerator (value_at values x)
 
 value_back : (r : Record) (v : Value) (o : Operand) → Holds r v → o.record ≡ r → o.numerator ≡ numerator v → value_of o ≡ v
@@ -56,11 +55,14 @@ wide_least w f = by (eqb f 1)
 first_named : (rows x : ℕ) (rest : Bool) → (leb rows x || rest) ≡ false → (x < rows) × (rest ≡ false)
 first_named rows x rest e = let (here, others) = neither (leb rows x) rest e in (leb-false rows x here, others)
 
-module _ (earlier records : List Record) (values : List Value) (h : AllHold earlier values) where
-  is_boolean : (x : ℕ) {o : Operand} → Stands earlier records values x o → sort_at earlier x ≡ 0 → IsBoolean o
+two_named : (rows x y : ℕ) → (leb rows x || (leb rows y || false)) ≡ false → (x < rows) × (y < rows)
+two_named rows x y e = let (hx, rest) = first_named rows x _ e in (hx, (first_named rows y false rest).0)
+
+module _ (earlier : List Record) (values : List Value) (h : AllHold earlier values) where
+  is_boolean : (x : ℕ) {o : Operand} → Stands earlier values x o → sort_at earlier x ≡ 0 → IsBoolean o
   is_boolean x s e = ap (λ (r : Record). r.sort) s.is_record ∙ e
 
-  is_number : (x : ℕ) {o : Operand} → Stands earlier records values x o → sort_at earlier x ≡ 1 → (record_at earlier x).width ≤ 48 → IsNumber o
+  is_number : (x : ℕ) {o : Operand} → Stands earlier values x o → sort_at earlier x ≡ 1 → (record_at earlier x).width ≤ 48 → IsNumber o
   is_number x s x_is narrow =
       let n = number_at earlier values h x x_is in
       record {
@@ -71,7 +73,7 @@ module _ (earlier records : List Record) (values : List Value) (h : AllHold earl
       }
 
   -- two numbers brought together
-  meets : (x y : ℕ) {a b : Operand} → (sort_at earlier x ≡ 1) × (sort_at earlier y ≡ 1) → Stands earlier records values x a × Stands earlier records values y b → meeting_at earlier x y ≤ 4096
+  meets : (x y : ℕ) {a b : Operand} → (sort_at earlier x ≡ 1) × (sort_at earlier y ≡ 1) → Stands earlier values x a × Stands earlier values y b → meeting_at earlier x y ≤ 4096
       → larger_at earlier x y ≤ 48 → Meeting a b
   meets x y {a} {b} (x_is, y_is) (s, t) m w =
       let p = number_at earlier values h x x_is in
@@ -93,95 +95,81 @@ module _ (earlier records : List Record) (values : List Value) (h : AllHold earl
   sorts : (s x y : ℕ) → (not (eqb (sort_at earlier x) s) || (not (eqb (sort_at earlier y) s) || false)) ≡ false → (sort_at earlier x ≡ s) × (sort_at earlier y ≡ s)
   sorts s x y e = two_sorts (sort_at earlier x) s (sort_at earlier y) s e
 
-  truths : (x y : ℕ) {a b : Operand} → (sort_at earlier x ≡ 0) × (sort_at earlier y ≡ 0) → Stands earlier records values x a × Stands earlier records values y b → IsBoolean a × IsBoolean b
+  truths : (x y : ℕ) {a b : Operand} → (sort_at earlier x ≡ 0) × (sort_at earlier y ≡ 0) → Stands earlier values x a × Stands earlier values y b → IsBoolean a × IsBoolean b
   truths x y (x_is, y_is) (s, t) = (is_boolean x s x_is, is_boolean y t y_is)
 
-  -- where the row x is an earlier one
-  abbrev pub Given : ℕ → Operand → Type 0
-  Given x o = x < length earlier → Stands earlier records values x o
-
-  -- the references that the tests of a row let pass
-  two : (x y : ℕ) {a b : Operand} → (leb (length earlier) x || (leb (length earlier) y || false)) ≡ false → Given x a → Given y b → Stands earlier records values x a × Stands earlier records values y b
-  two x y named at_x at_y =
-      let (hx, rest) = first_named (length earlier) x _ named in
-      let (hy, none) = first_named (length earlier) y false rest in
-      (at_x hx, at_y hy)
-
-  value_is : (x : ℕ) {o : Operand} → Stands earlier records values x o → value_of o ≡ value_at values x
-  value_is x {o} s = value_back (record_at earlier x) (value_at values x) o (hold_at earlier values h x) s.is_record s.is_numerator
-
-  -- what is said of two operands is said of their rows
-  same_two : {B : Type 0} (say : Record → Record → Value → Value → B) (x y : ℕ) {a b : Operand} → Stands earlier records values x a × Stands earlier records values y b
-      → say a.record b.record (value_of a) (value_of b) ≡ say (record_at records x) (record_at records y) (value_at values x) (value_at values y)
-  same_two say x y {a} {b} (s, t) =
-      ap₂ (λ (i j : Record). say i j (value_of a) (value_of b)) s.is_own t.is_own ∙ ap₂ (say (record_at records x) (record_at records y)) (value_is x s) (value_is y t)
+  pub stands_value : (x : ℕ) {o : Operand} → Stands earlier values x o → value_of o ≡ value_at values x
+  stands_value x {o} s = value_back (record_at earlier x) (value_at values x) o (hold_at earlier values h x) s.is_record s.is_numerator
 
   module _ (of : References Operand) where
     -- by kinds, with the fields as variables, because a field of a row cannot be matched
-    ready_by : (k : Kind) (p x y z : ℕ) → some_not_earlier (length earlier) (sorts_in (uses k)) (x ∷ y ∷ z ∷ []) ≡ false → Sorted earlier k x y z
-        → (plan_at earlier k p x y z).common ≤ 4096 → (plan_at earlier k p x y z).widest ≤ 48 → Given x of.x → Given y of.y → Given z of.z → Ready k of
-    ready_by BooleanConstant p x y z named sorted m w at_x at_y at_z = tt
-    ready_by BooleanUnknown p x y z named sorted m w at_x at_y at_z = tt
-    ready_by NaturalUnknown p x y z named sorted m w at_x at_y at_z = tt
-    ready_by IntegerUnknown p x y z named sorted m w at_x at_y at_z = tt
-    ready_by NumberConstant p x y z named sorted m w at_x at_y at_z = tt
-    ready_by Not p x y z named sorted m w at_x at_y at_z = tt
-    ready_by And p x y z named sorted m w at_x at_y at_z = truths x y (sorts 0 x y sorted) (two x y named at_x at_y)
-    ready_by Or p x y z named sorted m w at_x at_y at_z = truths x y (sorts 0 x y sorted) (two x y named at_x at_y)
-    ready_by Implies p x y z named sorted m w at_x at_y at_z = truths x y (sorts 0 x y sorted) (two x y named at_x at_y)
-    ready_by Iff p x y z named sorted m w at_x at_y at_z = truths x y (sorts 0 x y sorted) (two x y named at_x at_y)
-    ready_by Sum p x y z named sorted m w at_x at_y at_z = meets x y (sorts 1 x y sorted) (two x y named at_x at_y) m (omega arith)
-    ready_by Difference p x y z named sorted m w at_x at_y at_z = meets x y (sorts 1 x y sorted) (two x y named at_x at_y) m (omega arith)
-    ready_by Product p x y z named sorted m w at_x at_y at_z =
-        let (x_is, y_is) = sorts 1 x y sorted in
-        let (s, t) = two x y named at_x at_y in
-        (is_number x s x_is (omega arith), is_number y t y_is (omega arith))
-    ready_by Choice p x y z named sorted m w at_x at_y at_z =
+    ready_by : (k : Kind) (p x y z : ℕ) → Sorted earlier k x y z → (plan_at earlier k p x y z).common ≤ 4096 → (plan_at earlier k p x y z).widest ≤ 48
+        → Stands earlier values x of.x → Stands earlier values y of.y → Stands earlier values z of.z → Ready k of
+    ready_by BooleanConstant p x y z sorted m w s t u = tt
+    ready_by BooleanUnknown p x y z sorted m w s t u = tt
+    ready_by NaturalUnknown p x y z sorted m w s t u = tt
+    ready_by IntegerUnknown p x y z sorted m w s t u = tt
+    ready_by NumberConstant p x y z sorted m w s t u = tt
+    ready_by Not p x y z sorted m w s t u = tt
+    ready_by And p x y z sorted m w s t u = truths x y (sorts 0 x y sorted) (s, t)
+    ready_by Or p x y z sorted m w s t u = truths x y (sorts 0 x y sorted) (s, t)
+    ready_by Implies p x y z sorted m w s t u = truths x y (sorts 0 x y sorted) (s, t)
+    ready_by Iff p x y z sorted m w s t u = truths x y (sorts 0 x y sorted) (s, t)
+    ready_by Sum p x y z sorted m w s t u = meets x y (sorts 1 x y sorted) (s, t) m (omega arith)
+    ready_by Difference p x y z sorted m w s t u = meets x y (sorts 1 x y sorted) (s, t) m (omega arith)
+    ready_by Product p x y z sorted m w s t u = let (x_is, y_is) = sorts 1 x y sorted in (is_number x s x_is (omega arith), is_number y t y_is (omega arith))
+    ready_by Choice p x y z sorted m w s t u =
         let (x_is, others) = right_sort (sort_at earlier x) 0 _ sorted in
-        let (hx, rest) = first_named (length earlier) x _ named in
-        (is_boolean x (at_x hx) x_is, meets y z (sorts 1 y z others) (two y z rest at_y at_z) m w)
-    ready_by Greater p x y z named sorted m w at_x at_y at_z = meets x y (sorts 1 x y sorted) (two x y named at_x at_y) m w
-    ready_by Equal p x y z named sorted m w at_x at_y at_z = meets x y (sorts 1 x y sorted) (two x y named at_x at_y) m w
+        (is_boolean x s x_is, meets y z (sorts 1 y z others) (t, u) m w)
+    ready_by Greater p x y z sorted m w s t u = meets x y (sorts 1 x y sorted) (s, t) m w
+    ready_by Equal p x y z sorted m w s t u = meets x y (sorts 1 x y sorted) (s, t) m w
 
-    abbrev over_rows : Kind → (p x y z : ℕ) → ℤ → List Bool
-    over_rows k p x y z v = trace_by k p (record_at records x) (record_at records y) (record_at records z) (value_at values x) (value_at values y) (value_at values z) v
+    module _ (records : List Record) (own : (x : ℕ) → x < length earlier → record_at earlier x ≡ record_at records x) where
+      -- what is said of two operands is said of their rows
+      same_two : {B : Type 0} (say : Record → Record → Value → Value → B) (x y : ℕ) {a b : Operand} → (x < length earlier) × (y < length earlier) → Stands earlier values x a → Stands earlier values y b
+          → say a.record b.record (value_of a) (value_of b) ≡ say (record_at records x) (record_at records y) (value_at values x) (value_at values y)
+      same_two say x y {a} {b} (hx, hy) s t =
+          ap₂ (λ (i j : Record). say i j (value_of a) (value_of b)) (s.is_record ∙ own x hx) (t.is_record ∙ own y hy) ∙ ap₂ (say (record_at records x) (record_at records y)) (stands_value x s) (stands_value y t)
 
-    abbrev over_operands : Kind → (p : ℕ) → ℤ → List Bool
-    over_operands k p v = trace_by k p of.x.record of.y.record of.z.record (value_of of.x) (value_of of.y) (value_of of.z) v
+      abbrev over_rows : Kind → (p x y z : ℕ) → ℤ → List Bool
+      over_rows k p x y z v = trace_by k p (record_at records x) (record_at records y) (record_at records z) (value_at values x) (value_at values y) (value_at values z) v
 
-    -- of two operands
-    traced : (k : Kind) (p x y z : ℕ) (v : ℤ) → (leb (length earlier) x || (leb (length earlier) y || false)) ≡ false → Given x of.x → Given y of.y
-        → trace_by k p of.x.record of.y.record of.z.record (value_of of.x) (value_of of.y) (value_of of.z) v ≡ trace_by k p (record_at records x) (record_at records y) of.z.record (value_at values x) (value_at values y) (value_of of.z) v
-    traced k p x y z v named at_x at_y = same_two (λ a b i j. trace_by k p a b of.z.record i j (value_of of.z) v) x y (two x y named at_x at_y)
+      abbrev over_operands : Kind → (p : ℕ) → ℤ → List Bool
+      over_operands k p v = trace_by k p of.x.record of.y.record of.z.record (value_of of.x) (value_of of.y) (value_of of.z) v
 
-    trace_is : (k : Kind) (p x y z : ℕ) (v : ℤ) → some_not_earlier (length earlier) (sorts_in (uses k)) (x ∷ y ∷ z ∷ []) ≡ false → Given x of.x → Given y of.y → Given z of.z
-        → over_operands k p v ≡ over_rows k p x y z v
-    trace_is BooleanConstant p x y z v named at_x at_y at_z = refl
-    trace_is BooleanUnknown p x y z v named at_x at_y at_z = refl
-    trace_is NaturalUnknown p x y z v named at_x at_y at_z = refl
-    trace_is IntegerUnknown p x y z v named at_x at_y at_z = refl
-    trace_is NumberConstant p x y z v named at_x at_y at_z = refl
-    trace_is Not p x y z v named at_x at_y at_z = refl
-    trace_is And p x y z v named at_x at_y at_z = traced And p x y z v named at_x at_y
-    trace_is Or p x y z v named at_x at_y at_z = traced Or p x y z v named at_x at_y
-    trace_is Implies p x y z v named at_x at_y at_z = traced Implies p x y z v named at_x at_y
-    trace_is Iff p x y z v named at_x at_y at_z = traced Iff p x y z v named at_x at_y
-    trace_is Sum p x y z v named at_x at_y at_z = traced Sum p x y z v named at_x at_y
-    trace_is Difference p x y z v named at_x at_y at_z = traced Difference p x y z v named at_x at_y
-    trace_is Product p x y z v named at_x at_y at_z = traced Product p x y z v named at_x at_y
-    trace_is Choice p x y z v named at_x at_y at_z =
-        let (hx, rest) = first_named (length earlier) x _ named in
-        let a = of.x.record in
-        ap (λ (k : Value). trace_by Choice p a of.y.record of.z.record k (value_of of.y) (value_of of.z) v) (value_is x (at_x hx))
-        ∙ same_two (λ b c i j. trace_by Choice p a b c (value_at values x) i j v) y z (two y z rest at_y at_z)
-    trace_is Greater p x y z v named at_x at_y at_z = traced Greater p x y z v named at_x at_y
-    trace_is Equal p x y z v named at_x at_y at_z = traced Equal p x y z v named at_x at_y
+      -- of two operands
+      traced : (k : Kind) (p x y z : ℕ) (v : ℤ) → (leb (length earlier) x || (leb (length earlier) y || false)) ≡ false → Stands earlier values x of.x → Stands earlier values y of.y
+          → trace_by k p of.x.record of.y.record of.z.record (value_of of.x) (value_of of.y) (value_of of.z) v ≡ trace_by k p (record_at records x) (record_at records y) of.z.record (value_at values x) (value_at values y) (value_of of.z) v
+      traced k p x y z v named at_x at_y = same_two (λ a b i j. trace_by k p a b of.z.record i j (value_of of.z) v) x y (two_named (length earlier) x y named) at_x at_y
 
-    -- a row that passes behind the earlier ones
-    module _ {first : ℕ} {f : Fields} {r : Record} {k : Counts} (passes : Passes earlier first f r k) (at_x : Given f.x of.x) (at_y : Given f.y of.y) (at_z : Given f.z of.z) where
-      pub row_ready : Ready f.kind of
-      row_ready = ready_by f.kind f.p f.x f.y f.z passes.named passes.sorted passes.common passes.widest at_x at_y at_z
+      trace_is : (k : Kind) (p x y z : ℕ) (v : ℤ) → some_not_earlier (length earlier) (sorts_in (uses k)) (x ∷ y ∷ z ∷ []) ≡ false → Stands earlier values x of.x → Stands earlier values y of.y → Stands earlier values z of.z
+          → over_operands k p v ≡ over_rows k p x y z v
+      trace_is BooleanConstant p x y z v named at_x at_y at_z = refl
+      trace_is BooleanUnknown p x y z v named at_x at_y at_z = refl
+      trace_is NaturalUnknown p x y z v named at_x at_y at_z = refl
+      trace_is IntegerUnknown p x y z v named at_x at_y at_z = refl
+      trace_is NumberConstant p x y z v named at_x at_y at_z = refl
+      trace_is Not p x y z v named at_x at_y at_z = refl
+      trace_is And p x y z v named at_x at_y at_z = traced And p x y z v named at_x at_y
+      trace_is Or p x y z v named at_x at_y at_z = traced Or p x y z v named at_x at_y
+      trace_is Implies p x y z v named at_x at_y at_z = traced Implies p x y z v named at_x at_y
+      trace_is Iff p x y z v named at_x at_y at_z = traced Iff p x y z v named at_x at_y
+      trace_is Sum p x y z v named at_x at_y at_z = traced Sum p x y z v named at_x at_y
+      trace_is Difference p x y z v named at_x at_y at_z = traced Difference p x y z v named at_x at_y
+      trace_is Product p x y z v named at_x at_y at_z = traced Product p x y z v named at_x at_y
+      trace_is Choice p x y z v named at_x at_y at_z =
+          let (hx, rest) = first_named (length earlier) x _ named in
+          let a = of.x.record in
+          ap (λ (k : Value). trace_by Choice p a of.y.record of.z.record k (value_of of.y) (value_of of.z) v) (stands_value x at_x)
+          ∙ same_two (λ b c i j. trace_by Choice p a b c (value_at values x) i j v) y z (two_named (length earlier) y z rest) at_y at_z
+      trace_is Greater p x y z v named at_x at_y at_z = traced Greater p x y z v named at_x at_y
+      trace_is Equal p x y z v named at_x at_y at_z = traced Equal p x y z v named at_x at_y
 
-      pub row_trace : (v : ℤ) → trace_over f of v ≡ trace_of records values f v
-      unfolding trace_over trace_of
-      row_trace v = trace_is f.kind f.p f.x f.y f.z v passes.named at_x at_y at_z
+      -- a row that passes behind the earlier ones
+      module _ {first : ℕ} {f : Fields} {r : Record} {k : Counts} (passes : Passes earlier first f r k) (at_x : Stands earlier values f.x of.x) (at_y : Stands earlier values f.y of.y) (at_z : Stands earlier values f.z of.z) where
+        pub row_ready : Ready f.kind of
+        row_ready = ready_by f.kind f.p f.x f.y f.z passes.sorted passes.common passes.widest at_x at_y at_z
+
+        pub row_trace : (v : ℤ) → trace_over f of v ≡ trace_of records values f v
+        unfolding trace_over trace_of
+        row_trace v = trace_is f.kind f.p f.x f.y f.z v passes.named at_x at_y at_z

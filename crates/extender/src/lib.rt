@@ -1,7 +1,7 @@
 // The rows of an accepted sheet extended: one row after the other, its bits behind those before it.
 #![tactic(auto)]
 
-ghost use Rattle.std.specs.Prelude.{◌≡◌, map, ◌<◌, pos, length, get_or};
+ghost use Rattle.std.specs.Prelude.{◌≡◌, map, ◌≤◌, pos, length, get_or, take};
 ghost use Rattle.sheet.specs.Values.{numerator, row_values, Chosen};
 ghost use Rattle.sheet.specs.Acceptance.{record_at};
 ghost use Rattle.sheet.specs.Relations.{Extends};
@@ -11,39 +11,47 @@ ghost use Rattle.extend.specs.Bytes.{Room, Put};
 
 use extend::PartialModel;
 use number_extender::Operand;
-use sheet::{Reason, Record, References, Refusal};
+use sheet::{MISSING, Reason, Record, References, Refusal};
 use table::Sheet;
 
-// The row at a place among the records and the results.
-fn operand(records: &[Record], results: &[i64], at: usize) -> Operand
-    requires records { at < length records.now }
-    requires results { at < length results.now }
-    ensures record { result.record ≡ record_at records.now at }
-    ensures numerator { result.numerator ≡ get_or results.now at (pos 0) }
+// Row x as one behind r others may refer to it, of the rows before it alone: a row that is not earlier is false.
+#[tactic(auto, using(crate::proofs::Referring::refers))]
+fn refer(records: &[Record], results: &[i64], r: usize, x: u16) -> Operand
+    requires records { r ≤ length records.now }
+    requires results { length records.now ≤ length results.now }
+    ensures record { result.record ≡ record_at (take r records.now) x }
+    ensures numerator { result.numerator ≡ get_or (take r results.now) x (pos 0) }
 {
+    let x = usize::from(x);
+    if x < r {
+        return Operand {
+            record: records[x],
+            numerator: results[x],
+        };
+    }
     Operand {
-        record: records[at],
-        numerator: results[at],
+        record: MISSING,
+        numerator: 0,
     }
 }
 
-// Truth, then the rows of an accepted sheet at chosen values, where `results` are the rows' numerators.
-fn extend_rows(model: &mut PartialModel, sheet: &Sheet, results: &[i64], values: &[i64])
+// Truth, then the rows of an accepted sheet at chosen values, where `results` begin with the rows' numerators.
+#[tactic(auto, using(crate::proofs::Walking::enough))]
+pub fn extend_rows(model: &mut PartialModel, sheet: &Sheet, results: &[i64], values: &[i64])
     requires accepted { Accepted sheet.now }
     requires chosen { Chosen sheet.now.rows values.now }
-    requires computed { results.now ≡ map numerator (row_values sheet.now.rows values.now) }
+    requires computed { take (length sheet.now.rows) results.now ≡ map numerator (row_values sheet.now.rows values.now) }
     requires room { Room (traces sheet.now.records sheet.now.rows values.now) model.old }
     ensures { Put (traces sheet.now.records sheet.now.rows values.now) model.old model.new }
 {
     let records = sheet.records();
     model.put(true);
-    let mut u = 0;
+    let mut u: usize = 0;
     for (r, f) in sheet.rows().iter().enumerate() {
-        let at = table::places(*f, r);
         let of = References {
-            x: operand(records, results, at.x),
-            y: operand(records, results, at.y),
-            z: operand(records, results, at.z),
+            x: refer(records, results, r, f.x),
+            y: refer(records, results, r, f.y),
+            z: refer(records, results, r, f.z),
         };
         row_extender::extend_row(model, *f, of, unknown::value_at(values, u));
         if unknown::is_unknown(f.kind) {
@@ -57,7 +65,8 @@ fn extend_rows(model: &mut PartialModel, sheet: &Sheet, results: &[i64], values:
 pub fn extend(table: &[u8], values: &[i64], model: &mut [u8]) -> Result<bool, Refusal>
     ensures { Extends table.now values.now model.old result model.new }
 {
-    let sheet = choose::choose(table, values)?;
+    let mut sheet = Sheet::start();
+    choose::read_chosen(&mut sheet, table, values)?;
     let variables = sheet.counts().variables as usize;
     if model.len() < variables {
         return Err(Reason::ShortBuffer.at(variables));
@@ -69,6 +78,6 @@ pub fn extend(table: &[u8], values: &[i64], model: &mut [u8]) -> Result<bool, Re
         bytes: model,
         at: 0,
     };
-    extend_rows(&mut model, &sheet, &results[..rows], values);
+    extend_rows(&mut model, &sheet, &results, values);
     Ok(results[rows - 1] == 1)
 }

@@ -1,6 +1,6 @@
 -- The rows of a table that a call accepts fit the records that are lent. Assumes nothing.
-use Rattle.std.specs.Prelude.{Ok, Err}
-use mathlib.Core.Path.{◌≡◌, ap, subst}
+use Rattle.std.specs.Prelude.{Ok}
+use mathlib.Core.Path.{◌≡◌, subst}
 use mathlib.Core.Bool.{Bool, not}
 use mathlib.Core.List.{List, map as mapped}
 use Prim.Native.Nat.{ℕ, ◌+◌, ◌*◌, ◌≤◌}

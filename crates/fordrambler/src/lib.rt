@@ -1,8 +1,8 @@
 // The library's front door: the calls of document 01, none of which asks anything of its caller. Each call's contract is one relation of
 // crates/sheet/specs/Relations.antt; that no two outcomes meet it is stated in crates/promise/specs/Outcomes.antt, and proved.
 //
-// The calls over lent records, `check`, `write` and `decode`, are each a core that answers the sheet (table::check_core, write::write_core,
-// decode::decode_core), then `fill`. A program in Rattle may take the cores, and every other call from here.
+// The calls over lent records, `check`, `write` and `decode`, are each a core (table::read_checked, write::write_core, decode::decode_core),
+// then `fill`. A program in Rattle may take the cores, table::check_core among them, and every other call from here.
 #![tactic(auto)]
 
 ghost use Rattle.std.specs.Prelude.{◌≡◌, true, false, ◌≤◌, length};
@@ -11,6 +11,7 @@ ghost use Rattle.sheet.specs.Relations.{Checks, Measures, Writes, GivesRow, Eval
 
 use circuit::Counts;
 use sheet::{LinesFound, Reason, Record, Refusal};
+use table::Sheet;
 
 // The first so many records are written, the others stay.
 fn fill(records: &mut [Record], from: &[Record])
@@ -24,7 +25,8 @@ fn fill(records: &mut [Record], from: &[Record])
 pub fn check(table: &[u8], records: &mut [Record]) -> Result<(), Refusal>
     ensures { Checks table.now records.old result records.new }
 {
-    let sheet = table::check_core(table, records.len())?;
+    let mut sheet = Sheet::start();
+    table::read_checked(&mut sheet, table, records.len())?;
     fill(records, sheet.records());
     Ok(())
 }

@@ -129,15 +129,22 @@ fn line_page(line: &[u8], out: &mut [u8]) -> usize
     put_text(out, 0, line)
 }
 
-// The line of a refusal at the front of out, if it has 64 bytes; how many bytes it has.
-pub fn refused_line(refusal: Refusal, out: &mut [u8]) -> usize
+// The line of a refusal's number and place at the front of out, if it has 64 bytes; how many bytes it has.
+pub fn refused_line(number: u32, place: usize, out: &mut [u8]) -> usize
+    ensures answer { result ≡ (page_from 0 (refused_line number place ∷ []) (length out.old)).size }
+    ensures out { out.new ≡ paged 0 (refused_line number place ∷ []) out.old }
+{
+    let mut line = [0; PIECE];
+    let end = put_pair_line(&mut line, 0, b"refused ", u64::from(number), place as u64);
+    line_page(&line[..end], out)
+}
+
+// The same of a refusal.
+pub fn refusal_line(refusal: Refusal, out: &mut [u8]) -> usize
     ensures answer { result ≡ (page_from 0 (refused_line (refusal_number refusal.reason) refusal.place ∷ []) (length out.old)).size }
     ensures out { out.new ≡ paged 0 (refused_line (refusal_number refusal.reason) refusal.place ∷ []) out.old }
 {
-    let mut line = [0; PIECE];
-    let number = u64::from(refusal.reason.number());
-    let end = put_pair_line(&mut line, 0, b"refused ", number, refusal.place as u64);
-    line_page(&line[..end], out)
+    refused_line(refusal.reason.number(), refusal.place, out)
 }
 
 // The same of the line that says that no model is claimed.

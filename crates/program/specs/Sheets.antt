@@ -1,5 +1,5 @@
 -- The sheet of a table, and of the table in a text's lines, as both programs take it. Assumes nothing.
-use Rattle.std.specs.Prelude.{Ok, Err}
+use Rattle.std.specs.Prelude.{Ok}
 use Rattle.std.specs.Prelude.{Ok, Bool, List, ℕ}
 use Rattle.sheet.specs.declared.Reason.TheVariants.{FewSlots}
 use Rattle.sheet.specs.Acceptance.{Outcome, Sheet, accept}

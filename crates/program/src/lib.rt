@@ -1,9 +1,10 @@
 // What both programs make of their input: how much of it counts, and the clauses of the table in its lines.
 #![tactic(auto)]
 
-ghost use Rattle.std.specs.Prelude.{◌≡◌, ◌≤◌, length};
+ghost use Rattle.std.specs.Prelude.{◌≡◌, ◌≤◌, length, IfOk};
 ghost use Rattle.sheet.specs.Programs.{input_of};
 ghost use Rattle.sheet.specs.Calls.{left, sheet_map, sheet_slots};
+ghost use Rattle.table.specs.Bounds.{InBounds};
 ghost use Rattle.program.specs.Sheets.{sheet_of};
 
 use sheet::Refusal;
@@ -23,6 +24,7 @@ pub fn write_sheet(table: &[u8], map: &mut [i32], slots: &mut [i32]) -> Result<S
     requires map_room { 12288 ≤ length map.old }
     requires slots_length { length slots.old ≡ 16384 }
     ensures answer { result ≡ sheet_of table.now }
+    ensures bounds { IfOk result InBounds }
     ensures map { map.new ≡ left (sheet_of table.now) sheet_map map.old }
     ensures slots { slots.new ≡ left (sheet_of table.now) sheet_slots slots.old }
 {

@@ -6,13 +6,15 @@ ghost use Rattle.sheet.specs.Calls.{row_clauses};
 ghost use Rattle.sheet.specs.Relations.{GivesRow};
 
 use sheet::{Reason, Record, Refusal};
+use table::Sheet;
 
 // The record of a row whose slots are to be among so many: refusals 1 to 10, 13 and 22.
 pub fn find(table: &[u8], room: usize, row: u32) -> Result<Record, Refusal>
     ensures answer { result ≡ row_clauses table.now room row }
     ensures within { IfOk result (λ r. r.first + r.slots ≤ room) }
 {
-    let sheet = table::survey(table)?;
+    let mut sheet = Sheet::start();
+    table::read(&mut sheet, table)?;
     let needed = sheet.counts().slots as usize;
     if room < needed {
         return Err(Reason::FewSlots.at(needed));

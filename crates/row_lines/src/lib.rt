@@ -10,7 +10,7 @@ use sheet::Record;
 
 // The rows' numerators, each over its record's denominator; how many bytes the lines have.
 pub fn value_lines(records: &[Record], numerators: &[i64], out: &mut [u8]) -> usize
-    requires { 64 * length records.now ≤ length out.old }
+    requires { 64 * length (over_records records.now numerators.now) ≤ length out.old }
     ensures answer { result ≡ length (value_lines (over_records records.now numerators.now)) }
     ensures out { out.new ≡ front (value_lines (over_records records.now numerators.now)) out.old }
 {

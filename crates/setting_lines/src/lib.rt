@@ -72,7 +72,13 @@ pub fn settings_page(table: &[u8], numerators: &[i64], from: usize, out: &mut [u
     ensures out { out.new ≡ paged from (table_pieces table.now numerators.now) out.old }
 {
     let rows = table.len() / 8;
-    let mut used = unknowns_before(table, from.min(rows));
+    if from >= rows {
+        return Page {
+            next: from,
+            size: 0,
+        };
+    }
+    let mut used = unknowns_before(table, from);
     let mut size = 0;
     for row in from..rows {
         if out.len() - size < print::PIECE {
@@ -81,8 +87,5 @@ pub fn settings_page(table: &[u8], numerators: &[i64], from: usize, out: &mut [u
         size = put_setting(out, size, table, numerators, row, used);
         used += usize::from(unknown::is_unknown_at(table, row));
     }
-    Page {
-        next: from.max(rows),
-        size,
-    }
+    Page { next: rows, size }
 }

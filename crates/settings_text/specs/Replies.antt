@@ -1,6 +1,6 @@
 -- What the settings program and the values program print, step by step: of a table and the text behind it, of a table and a model; and a
 -- model that can be judged. Assumes nothing.
-use Rattle.std.specs.Prelude.{Ok, Err}
+use Rattle.std.specs.Prelude.{Ok}
 use Rattle.std.specs.Prelude.{◌≡◌, Bool, true, false, List, ℕ, length}
 use Rattle.circuit.specs.Literals.{Assignment}
 use Rattle.sheet.specs.Values.{every}

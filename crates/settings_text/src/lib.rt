@@ -39,10 +39,10 @@ fn print_model(table: &[u8], model: &[u8], all: bool, out: &mut [u8]) -> usize
     let mut values = [0i64; 256];
     let tried = match decode::decode_core(table, 256, &mut map, &mut slots, model, &mut values) {
         Ok(tried) => tried,
-        Err(refusal) => return print::refused_line(refusal, out),
+        Err(refusal) => return print::refusal_line(refusal, out),
     };
     if let Some(clause) = tried.false_clause {
-        return print::refused_line(Reason::FalseClause.at(clause), out);
+        return print::refusal_line(Reason::FalseClause.at(clause), out);
     }
     let settings = &values[..tried.sheet.counts().unknowns as usize];
     if all {
@@ -63,7 +63,7 @@ fn print_claim(table: &[u8], variables: u32, rest: &[u8], all: bool, out: &mut [
     match solver_text::read_claim(rest, variables, &mut model) {
         Ok(true) => print_model(table, &model[..variables as usize], all, out),
         Ok(false) => print::none_claimed_line(out),
-        Err(wrong) => print::refused_line(wrong, out),
+        Err(wrong) => print::refusal_line(wrong, out),
     }
 }
 
@@ -73,9 +73,10 @@ fn print_answer(table: &[u8], rest: &[u8], all: bool, out: &mut [u8]) -> usize
     ensures answer { result ≡ length (claim_text all table.now rest.now) }
     ensures out { out.new ≡ front (claim_text all table.now rest.now) out.old }
 {
-    match write::fitting(table, 256, 12288, 16384) {
-        Ok(sheet) => print_claim(table, sheet.counts().variables, rest, all, out),
-        Err(refusal) => print::refused_line(refusal, out),
+    let mut sheet = Sheet::start();
+    match write::read_fitting(&mut sheet, table, 256, 12288, 16384) {
+        Ok(()) => print_claim(table, sheet.counts().variables, rest, all, out),
+        Err(refusal) => print::refusal_line(refusal, out),
     }
 }
 
@@ -93,7 +94,7 @@ fn print_whole(text: &[u8], all: bool, out: &mut [u8]) -> usize
             all,
             out,
         ),
-        Err(refusal) => print::refused_line(refusal, out),
+        Err(refusal) => print::refusal_line(refusal, out),
     }
 }
 

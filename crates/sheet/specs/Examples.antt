@@ -11,6 +11,8 @@ use Rattle.circuit.specs.Numbers.{product}
 use Rattle.circuit.specs.Counting.{a_product, expanded_width, an_expansion}
 use Rattle.circuit.specs.Examples.{Example, ◌gives◌}
 use Rattle.sheet.specs.declared.Record.{Record}
+use Rattle.sheet.specs.declared.Reason.{Reason}
+use Rattle.sheet.specs.declared.Reason.TheVariants.{WrongLength, TooManyRows, UnknownKind, UnusedField, OutOfRange, NotEarlier, WrongSort, LargeDenominator, TooWide, EndsInNumber, FewRecords, ShortMap, FewSlots, ValueCount, ValueOutside, ModelLength, NotABit, ShortBuffer, FalseClause, BadLine, BadClaim, NoSuchRow}
 use Rattle.sheet.specs.Rows.{named, read_row, rows_of}
 use Rattle.sheet.specs.Values.{numerator, denominator, row_val, row_values}
 use Rattle.sheet.specs.Acceptance.{refusal_number, Outcome, Sheet, judge, walk, accept}
@@ -103,6 +105,15 @@ abbrev numerators_low : List ℤ
 numerators_low =
     pos 1 ∷ pos 0 ∷ pos 0 ∷ pos 3 ∷ negsuc 2 ∷ pos 1 ∷ pos 0 ∷ pos 1 ∷ pos 1 ∷ pos 1 ∷ pos 3 ∷ pos 9 ∷ negsuc 8 ∷ negsuc 2 ∷ pos 0 ∷ pos 0 ∷ []
 
+-- document 01's table of refusals, by reason
+abbrev every_reason : List Reason
+every_reason =
+    WrongLength ∷ TooManyRows ∷ UnknownKind ∷ UnusedField ∷ OutOfRange ∷ NotEarlier ∷ WrongSort ∷ LargeDenominator ∷ TooWide ∷ EndsInNumber ∷ FewRecords ∷ ShortMap ∷ FewSlots
+    ∷ ValueCount ∷ ValueOutside ∷ ModelLength ∷ NotABit ∷ ShortBuffer ∷ FalseClause ∷ BadLine ∷ BadClaim ∷ NoSuchRow ∷ []
+
+abbrev numbered : List Reason → List ℤ
+numbered reasons = map (λ reason. pos (refusal_number reason)) reasons
+
 abbrev pub examples : List Example
 examples =
     -- constants: 0 and -1, 1 and -2, 127 and -128, 128 and -129
@@ -173,6 +184,8 @@ examples =
     ∷ (sizes above_two gives pos 9 ∷ pos 26 ∷ pos 100 ∷ [])
     ∷ (made above_two gives pos 9 ∷ pos 26 ∷ pos 100 ∷ [])
     ∷ (truths above_two (pos 0 ∷ pos 1 ∷ pos 2 ∷ pos 3 ∷ []) gives pos 0 ∷ pos 0 ∷ pos 0 ∷ pos 1 ∷ [])
+    -- the numbers of all refusals: of a table; of buffers; of values and models; of texts; of one row's clauses
+    ∷ (numbered every_reason gives pos 1 ∷ pos 2 ∷ pos 3 ∷ pos 4 ∷ pos 5 ∷ pos 6 ∷ pos 7 ∷ pos 8 ∷ pos 9 ∷ pos 10 ∷ pos 11 ∷ pos 12 ∷ pos 13 ∷ pos 14 ∷ pos 15 ∷ pos 16 ∷ pos 17 ∷ pos 18 ∷ pos 19 ∷ pos 20 ∷ pos 21 ∷ pos 22 ∷ [])
     -- refusals 1 to 10 with their places; and 4 before 5, 6 before 7, 8 before 9
     ∷ (widths [] gives pos 1 ∷ pos 0 ∷ [])
     ∷ (widths (0 ∷ end) gives pos 1 ∷ pos 0 ∷ [])

@@ -4,6 +4,9 @@ use Rattle.std.specs.Int.{◌∣◌}
 use Rattle.std.specs.Int.Signed.{lt_z}
 use Rattle.whole.specs.Tests.{if◌then◌otherwise◌, eq_z}
 use Rattle.sheet.specs.declared.Kind.TheVariants.{Sum, Difference, Product, Choice, Greater, Equal}
+use Rattle.sheet.specs.declared.Reason.{Reason}
+use Rattle.sheet.specs.Acceptance.{refusal_number, Outcome}
+use Rattle.sheet.specs.Calls.{number_of}
 use Rattle.sheet.specs.Values.{Value, fraction, truth_of, numerator, denominator, over, value_by}
 use Rattle.sheet.specs.Texts.{ascii, Bytes, lines_of, table_in, lines, read_lines, model, model_text, claim_in}
 
@@ -77,3 +80,10 @@ Bits (b ∷ bs) = (b ≤ 1) × Bits bs
 -- .. and the text of a model is read as the model
 abbrev pub PrintedAccepted : Type 0
 PrintedAccepted = (bytes : List ℕ) → Bits bytes → claim_in (length bytes) (model_text bytes) ≡ Ok (model bytes)
+
+-- every refusal has one of document 01's numbers, and where a call answers 0 nothing is refused
+abbrev pub RefusalsNumbered : Type 0
+RefusalsNumbered = (reason : Reason) → (0 < refusal_number reason) × (refusal_number reason ≤ 22)
+
+abbrev pub ZeroIsDone : Type 1
+ZeroIsDone = (A : Type 0) (o : Outcome A) → number_of o ≡ 0 → (a : A) × (o ≡ Ok a)

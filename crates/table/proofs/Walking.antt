@@ -2,14 +2,14 @@
 use Rattle.std.specs.Prelude.{Ok, Err}
 use mathlib.Core.Path.{◌≡◌, refl, sym, ap, ◌∙◌}
 use mathlib.Core.List.{List, [], ◌∷◌, ◌++◌, append_assoc, append-nil}
-use Prim.Native.Nat.{ℕ, suc, ◌+◌, ◌*◌, ◌-◌, ◌<◌}
+use Prim.Native.Nat.{ℕ, suc, ◌+◌, ◌*◌, ◌-◌, ◌≤◌, ◌<◌}
 use native.Mathlib.Nat.{sub-zero}
 use native.Mathlib.Omega.{arith}
 use lib.ListN.{length, drop, length-append}
 use lib.Seq.{drop-drop}
 use Rattle.std.specs.List.{All}
 use Rattle.std.proofs.lemmas.List.Elements.{All-push}
-use Rattle.circuit.specs.Counting.{◌⊕◌, the_first}
+use Rattle.circuit.specs.Counting.{◌⊕◌, the_first, the_last}
 use Rattle.sheet.specs.declared.Fields.{Fields}
 use Rattle.sheet.specs.declared.Passed.{Passed}
 use Rattle.sheet.specs.declared.Reason.{Reason}
@@ -19,6 +19,7 @@ use Rattle.counting.specs.Bounds.{Below}
 use Rattle.counting.proofs.Bounds.{plus_below}
 use Rattle.row.specs.RowAt.{row_at}
 use Rattle.judge.specs.Bounds.{InLimits}
+use Rattle.table.specs.Bounds.{InBounds}
 use Rattle.table.proofs.Lengths.{Whole}
 
 -- r of the rows are in the sheet, and the walk of those that are left is acceptance
@@ -50,6 +51,18 @@ module _ {table : List ℕ} {rows r : ℕ} {sheet : Sheet} (p : Walking table ro
       let none : rows - r ≡ 0 = omega arith in
       let same : length sheet.records ≡ rows = p.records ∙ h in
       (rw same (sym (append-nil sheet.rows) ∙ rw none at p.read), rw none at p.left)
+
+  -- and the last row's unit is counted: no sum over the sheet wraps
+  pub bounded : r ≡ rows → {next : Sheet} → next.rows ≡ sheet.rows → next.records ≡ sheet.records → next.counts ≡ sheet.counts ⊕ the_last → InBounds next
+  bounded h fs rs so =
+      let most : r ≤ 256 = omega (arith, p.whole.most) in
+      let last : Below 2 the_last = record { unknowns = omega arith; variables = omega arith; clauses = omega arith; slots = omega arith } in
+      let b = plus_below p.few last so in
+      record {
+        few = rw fs (omega (arith, p.as_many, most));
+        limits = rw rs p.limits;
+        counts = record { unknowns = omega (arith, b.unknowns, most); variables = omega (arith, b.variables, most); clauses = omega (arith, b.clauses, most); slots = omega (arith, b.slots, most) };
+      }
 
   -- row r is next
   module _ (h : r < rows) where

@@ -26,7 +26,7 @@ const THE_FIRST: Counts = Counts {
 
 // The paper's sheet: the rows of an accepted table, their records, and what it counts. At most 256 rows, in fixed places: nothing is
 // allocated. During the walk it holds the rows so far.
-#[derive(Drop)]
+#[derive(Clone, Copy)]
 pub struct Sheet {
     count: usize,
     rows: [Fields; 256],
@@ -39,16 +39,20 @@ impl Model for Sheet {
 
     ghost Value = { Sheet };
 
-    ghost use Rattle.table.specs.Held.{held, IsHeld};
+    ghost use Rattle.table.specs.Held.{held, in_places, IsHeld, back};
 
     ghost view = { held };
 
     ghost invariant = { IsHeld };
+
+    ghost inverse = { in_places };
+
+    ghost inverse_ok = { back };
 }
 
 impl Sheet {
     // Before the first row.
-    pub(crate) fn start() -> Self
+    pub fn start() -> Self
         ensures { result ≡ record { rows = []; records = []; counts = the_first } }
     {
         Sheet {

@@ -10,7 +10,8 @@ ghost use Rattle.sheet.specs.Calls.{◌giving◌, checking};
 ghost use Rattle.counting.specs.Bounds.{Below};
 ghost use Rattle.row.specs.RowAt.{row_at};
 ghost use Rattle.judge.specs.Bounds.{InLimits};
-ghost use Rattle.table.specs.Surveys.{length_tested, places_of};
+ghost use Rattle.table.specs.Bounds.{InBounds};
+ghost use Rattle.table.specs.Surveys.{length_tested, no_rows, places_of};
 
 use circuit::Counts;
 use sheet::{Fields, MISSING, Passed, Reason, Record, References, Refusal};
@@ -28,7 +29,7 @@ const THE_LAST: Counts = Counts {
 };
 
 // Where row x stands among the records: at r, where none is written yet, if it is not one of the r rows before.
-fn place(x: u16, r: usize) -> usize
+pub fn place(x: u16, r: usize) -> usize
     ensures { result ≡ min x r }
 {
     usize::from(x).min(r)
@@ -95,14 +96,16 @@ fn ends_in_number(records: &[Record]) -> bool
     records[records.len() - 1].sort == 1
 }
 
-// A table's sheet, or its refusal: the rows one by one, until one stops; behind the last, which must be Boolean, its unit is counted.
-pub fn survey(table: &[u8]) -> Result<Sheet, Refusal>
-    ensures { result ≡ accept table.now }
+// Reads a table's rows into a sheet that has none: one by one, until one stops; behind the last, which must be Boolean, its unit is
+// counted. The sheet is lent, so that none is copied on the way to whoever asks for it.
+pub fn read(sheet: &mut Sheet, table: &[u8]) -> Result<(), Refusal>
+    requires { sheet.old ≡ no_rows }
+    ensures answer { (result giving λ _. sheet.new) ≡ accept table.now }
+    ensures bounds { IfOk result (λ _. InBounds sheet.new) }
 {
     test_length(table.len())?;
-    let mut sheet = Sheet::start();
     for r in 0..table.len() / 8 {
-        let verdict = pass(table, r, &sheet);
+        let verdict = pass(table, r, sheet);
         let Ok((f, passed)) = verdict else {
             return Err(verdict.unwrap_err().at(r));
         };
@@ -112,6 +115,16 @@ pub fn survey(table: &[u8]) -> Result<Sheet, Refusal>
         return Err(Reason::EndsInNumber.at(sheet.rows().len() - 1));
     }
     sheet.count_more(THE_LAST);
+    Ok(())
+}
+
+// A table's sheet, or its refusal.
+pub fn survey(table: &[u8]) -> Result<Sheet, Refusal>
+    ensures answer { result ≡ accept table.now }
+    ensures bounds { IfOk result InBounds }
+{
+    let mut sheet = Sheet::start();
+    read(&mut sheet, table)?;
     Ok(sheet)
 }
 
@@ -119,19 +132,32 @@ pub fn survey(table: &[u8]) -> Result<Sheet, Refusal>
 pub fn measure(table: &[u8]) -> Result<Counts, Refusal>
     ensures { result ≡ (accept table.now giving λ sheet. sheet.counts) }
 {
-    let sheet = survey(table)?;
+    let mut sheet = Sheet::start();
+    read(&mut sheet, table)?;
     Ok(sheet.counts())
 }
 
-// The sheet of a table whose records are to fit so many lent ones.
+// Reads a table whose records are to fit so many lent ones.
 #[tactic(auto, unfolding(sheet::specs::Calls::checking))]
-pub fn check_core(table: &[u8], room: usize) -> Result<Sheet, Refusal>
-    ensures { result ≡ checking table.now room }
+pub fn read_checked(sheet: &mut Sheet, table: &[u8], room: usize) -> Result<(), Refusal>
+    requires { sheet.old ≡ no_rows }
+    ensures answer { (result giving λ _. sheet.new) ≡ checking table.now room }
+    ensures bounds { IfOk result (λ _. InBounds sheet.new) }
 {
-    let sheet = survey(table)?;
-    let rows = sheet.rows().len();
+    read(sheet, table)?;
+    let rows = sheet.records().len();
     if room < rows {
         return Err(Reason::FewRecords.at(rows));
     }
+    Ok(())
+}
+
+// The sheet of a table whose records are to fit so many lent ones.
+pub fn check_core(table: &[u8], room: usize) -> Result<Sheet, Refusal>
+    ensures answer { result ≡ checking table.now room }
+    ensures bounds { IfOk result InBounds }
+{
+    let mut sheet = Sheet::start();
+    read_checked(&mut sheet, table, room)?;
     Ok(sheet)
 }

@@ -1,22 +1,32 @@
 // Writing a table: every refusal is decided before anything is written; then the first unit, the rows and the last unit.
 #![tactic(auto)]
 
-ghost use Rattle.std.specs.Prelude.{◌≡◌, [], ◌∷◌, ◌*◌, ◌≤◌, pos, length};
+ghost use Rattle.std.specs.Prelude.{◌≡◌, [], ◌∷◌, ◌*◌, ◌≤◌, pos, length, IfOk};
 ghost use Rattle.sheet.specs.Steps.{map_for, slots_for};
-ghost use Rattle.sheet.specs.Calls.{writing, left, sheet_map, sheet_slots};
+ghost use Rattle.sheet.specs.Calls.{◌giving◌, writing, left, sheet_map, sheet_slots};
 ghost use Rattle.frame.specs.Frame.{front};
 ghost use Rattle.table.specs.Accepted.{Accepted};
+ghost use Rattle.table.specs.Bounds.{InBounds};
+ghost use Rattle.table.specs.Surveys.{no_rows};
 
 use sheet::{Reason, Refusal};
 use table::Sheet;
 
-// The sheet of a table whose records, literal map and slots are to fit what is lent: refusals 1 to 13.
+// Reads a table whose records, literal map and slots are to fit what is lent: refusals 1 to 13.
 #[tactic(auto, unfolding(sheet::specs::Calls::writing))]
-pub fn fitting(table: &[u8], records: usize, map: usize, slots: usize) -> Result<Sheet, Refusal>
-    ensures { result ≡ writing table.now records map slots }
+pub fn read_fitting(
+    sheet: &mut Sheet,
+    table: &[u8],
+    records: usize,
+    map: usize,
+    slots: usize,
+) -> Result<(), Refusal>
+    requires { sheet.old ≡ no_rows }
+    ensures answer { (result giving λ _. sheet.new) ≡ writing table.now records map slots }
+    ensures bounds { IfOk result (λ _. InBounds sheet.new) }
 {
-    let sheet = table::check_core(table, records)?;
-    let places = literal_map::places(sheet.rows().len());
+    table::read_checked(sheet, table, records)?;
+    let places = literal_map::places(sheet.records().len());
     if map < places {
         return Err(Reason::ShortMap.at(places));
     }
@@ -24,6 +34,16 @@ pub fn fitting(table: &[u8], records: usize, map: usize, slots: usize) -> Result
     if slots < needed {
         return Err(Reason::FewSlots.at(needed));
     }
+    Ok(())
+}
+
+// The sheet of a table whose records, literal map and slots are to fit what is lent.
+pub fn fitting(table: &[u8], records: usize, map: usize, slots: usize) -> Result<Sheet, Refusal>
+    ensures answer { result ≡ writing table.now records map slots }
+    ensures bounds { IfOk result InBounds }
+{
+    let mut sheet = Sheet::start();
+    read_fitting(&mut sheet, table, records, map, slots)?;
     Ok(sheet)
 }
 
@@ -59,10 +79,12 @@ pub fn write_core(
     slots: &mut [i32],
 ) -> Result<Sheet, Refusal>
     ensures answer { result ≡ writing table.now records (length map.old) (length slots.old) }
+    ensures bounds { IfOk result InBounds }
     ensures map { map.new ≡ left (writing table.now records (length map.old) (length slots.old)) sheet_map map.old }
     ensures slots { slots.new ≡ left (writing table.now records (length map.old) (length slots.old)) sheet_slots slots.old }
 {
-    let sheet = fitting(table, records, map.len(), slots.len())?;
+    let mut sheet = Sheet::start();
+    read_fitting(&mut sheet, table, records, map.len(), slots.len())?;
     write_table(&sheet, map, slots);
     Ok(sheet)
 }

@@ -25,4 +25,4 @@ pub returns-in-Err : goal.returns-in-Err
 returns-in-Err c =
     let line = refusal_printed c.args.input.now (rw c.used.ensures at (sym c.clauses_in.ensures.answer ∙ c.in-Err.is)) in
     let whole = piece_whole (clause_program c.args.input.now) c.args.out.now (omega (arith, c.requires)) in
-    rw (← line, whole) at c.refused_line.ensures
+    rw (← line, whole) at c.refusal_line.ensures

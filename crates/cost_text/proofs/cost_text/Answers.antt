@@ -44,4 +44,4 @@ pub returns-in-Err : goal.returns-in-Err
 returns-in-Err c =
     let line = lines_printed c.args.input.now blank blank-long (rw c.used.ensures at (sym c.read_lines.ensures.answer ∙ c.in-Err.is)) in
     let whole = piece_whole (costs_program c.args.input.now) c.args.out.now (omega (arith, c.requires)) in
-    rw (← line, whole) at c.refused_line.ensures
+    rw (← line, whole) at c.refusal_line.ensures

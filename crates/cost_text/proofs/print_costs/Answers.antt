@@ -1,8 +1,8 @@
 -- `cost_text::print_costs` meets its contract. Assumes nothing.
-use mathlib.Core.Path.{sym, ap, ◌∙◌}
+use mathlib.Core.Path.{ap}
 use native.Mathlib.Omega.{arith}
-use borrow.Author.Rules.{rules}
 use lib.ListN.{length}
+use Rattle.table.proofs.Lent.{read_into, read_refused}
 use Rattle.sheet.proofs.Accepted.{accepted_tells}
 use Rattle.print.proofs.Pieces.{piece_whole}
 use Rattle.cost_text.specs.Costs.{cost_text}
@@ -11,14 +11,14 @@ use Rattle.cost_text.proofs.print_costs.Goals as goal
 
 pub cost_lines-requires : goal.cost_lines-requires
 cost_lines-requires c =
-    let few = (accepted_tells c.args.table.now c.in-Ok.sheet (sym c.survey.ensures ∙ c.in-Ok.is)).few in
+    let few = (accepted_tells c.args.table.now c.read.new.sheet (read_into c.read.ensures.answer c.in-Ok.is)).few in
     omega (arith, few, ap length c.records.ensures.records, c.requires)
 
 pub returns-in-Ok : goal.returns-in-Ok
-returns-in-Ok c = rw (c.records.ensures.records, ← costs_printed c.args.table.now (sym c.survey.ensures ∙ c.in-Ok.is)) at c.cost_lines.ensures
+returns-in-Ok c = rw (c.records.ensures.records, ← costs_printed c.args.table.now (read_into c.read.ensures.answer c.in-Ok.is)) at c.cost_lines.ensures
 
 pub returns-in-Err : goal.returns-in-Err
 returns-in-Err c =
-    let line = refusal_printed c.args.table.now (sym c.survey.ensures ∙ c.in-Err.is) in
+    let line = refusal_printed c.args.table.now (read_refused c.read.new.sheet c.read.ensures.answer c.in-Err.is) in
     let whole = piece_whole (cost_text c.args.table.now) c.args.out.now (omega (arith, c.requires)) in
-    rw (← line, whole) at c.refused_line.ensures
+    rw (← line, whole) at c.refusal_line.ensures

@@ -1,21 +1,23 @@
 -- `extender::extend_rows` meets its contract. Assumes nothing.
 use Rattle.std.proofs.Common.{rules}
-use mathlib.Core.Path.{◌≡◌, ap, ap₂, sym, ◌∙◌}
-use Prim.Native.Nat.{ℕ, ◌+◌, ◌<◌, min}
-use native.Mathlib.Omega.{arith}
+use mathlib.Core.Path.{◌≡◌, ap, ◌∙◌}
+use mathlib.Core.List.{List}
+use Prim.Native.Nat.{ℕ, ◌+◌, ◌<◌}
 use lib.IntN.{pos}
-use lib.ListN.{length, get_or, drop, drop_of_length-le}
+use lib.ListN.{length, get_or, take, drop_of_length-le}
 use mir.Syntax.{w64}
 use mir.Val.{to_z, of_z}
 use Rattle.whole.specs.Bits.{bit}
 use Rattle.sheet.specs.declared.Fields.{Fields}
+use Rattle.sheet.specs.declared.Record.{Record}
 use Rattle.sheet.specs.declared.References.{References}
 use Rattle.sheet.specs.Rows.{uses, is_unknown}
 use Rattle.sheet.specs.Acceptance.{record_at}
 use Rattle.table.proofs.Rowwise.{Row, row, no_fields}
 use Rattle.extend.proofs.Words.{kept}
 use Rattle.number_extender.specs.declared.Operand.{Operand}
-use Rattle.extender.proofs.Walking.{At, truth_room, walking_none, walking_ready, walking_room, walking_next, walking_end}
+use Rattle.extender.proofs.Standing.{Stands}
+use Rattle.extender.proofs.Walking.{truth_room, walking_none, walking_stands, walking_ready, walking_room, walking_next, walking_end}
 use Rattle.extender.proofs.extend_rows.Goals as goal
 use Rattle.extender.proofs.extend_rows.Goals.{After-value_at, then-is_unknown, else-is_unknown}
 
@@ -23,7 +25,7 @@ pub put-requires : goal.put-requires
 put-requires c = truth_room c.args.sheet.now c.args.values.now c.requires.room
 
 pub loop-r-init : goal.loop-r-init
-loop-r-init c = walking_none c.args.sheet.now c.args.values.now c.requires.room c.requires.computed c.requires.chosen c.put.ensures
+loop-r-init c = walking_none c.args.sheet.now c.args.values.now c.requires.room c.requires.chosen c.put.ensures
 
 -- row r, and its operands
 module _ (s : After-value_at) where
@@ -37,37 +39,37 @@ module _ (s : After-value_at) where
   here = rw s.rows-f-items.ensures.rows (row s.requires.accepted s.loop-r.r no_fields left)
 
   abbrev of : References Operand
-  of = record { x = s.operand.result; y = s.operand-in-loop-r.result; z = s.operand-in-loop-r-2.result }
+  of = record { x = s.refer.result; y = s.refer-in-loop-r.result; z = s.refer-in-loop-r-2.result }
 
-  reads : {x i : ℕ} {o : Operand} → i ≡ min x s.loop-r.r → o.record ≡ record_at s.records-records.result.now i → o.numerator ≡ get_or s.args.results.now i (pos 0) → At s.args.sheet.now s.args.results.now s.loop-r.r x o
-  reads e f g = record {
-    is_record = f ∙ ap₂ record_at s.records-records.ensures.records e;
-    is_numerator = g ∙ ap (λ (i : ℕ). get_or s.args.results.now i (pos 0)) e;
-  }
+  stands : (x : ℕ) {o : Operand} → o.record ≡ record_at (take s.loop-r.r s.records-records.result.now) x → o.numerator ≡ get_or (take s.loop-r.r s.args.results.now) x (pos 0)
+      → Stands (take s.loop-r.r s.args.sheet.now.records) s.loop-r.invariant.earlier x o
+  stands x e g =
+      let is_record = e ∙ ap (λ (rs : List Record). record_at (take s.loop-r.r rs) x) s.records-records.ensures.records in
+      walking_stands s.requires.accepted s.loop-r.invariant here left s.args.results.now s.requires.computed x (record { is_record = is_record; is_numerator = g })
 
-  at_x : At s.args.sheet.now s.args.results.now s.loop-r.r f.x of.x
-  at_x = reads (ap (λ (p : References ℕ). p.x) s.places-at.ensures) s.operand.ensures.record s.operand.ensures.numerator
+  at_x : Stands (take s.loop-r.r s.args.sheet.now.records) s.loop-r.invariant.earlier f.x of.x
+  at_x = stands f.x s.refer.ensures.record s.refer.ensures.numerator
 
-  at_y : At s.args.sheet.now s.args.results.now s.loop-r.r f.y of.y
-  at_y = reads (ap (λ (p : References ℕ). p.y) s.places-at.ensures) s.operand-in-loop-r.ensures.record s.operand-in-loop-r.ensures.numerator
+  at_y : Stands (take s.loop-r.r s.args.sheet.now.records) s.loop-r.invariant.earlier f.y of.y
+  at_y = stands f.y s.refer-in-loop-r.ensures.record s.refer-in-loop-r.ensures.numerator
 
-  at_z : At s.args.sheet.now s.args.results.now s.loop-r.r f.z of.z
-  at_z = reads (ap (λ (p : References ℕ). p.z) s.places-at.ensures) s.operand-in-loop-r-2.ensures.record s.operand-in-loop-r-2.ensures.numerator
+  at_z : Stands (take s.loop-r.r s.args.sheet.now.records) s.loop-r.invariant.earlier f.z of.z
+  at_z = stands f.z s.refer-in-loop-r-2.ensures.record s.refer-in-loop-r-2.ensures.numerator
 
   value : to_z w64 (of_z w64 s.value_at.result) ≡ get_or s.args.values.now s.loop-r.u (pos 0)
   value = kept s.value_at.result s.value_at.type_inv ∙ s.value_at.ensures
 
 pub extend_row-requires-clause-ready : goal.extend_row-requires-clause-ready
-extend_row-requires-clause-ready c = walking_ready c.requires.accepted c.loop-r.invariant (here c) (left c) c.requires.computed (of c) (at_x c) (at_y c) (at_z c)
+extend_row-requires-clause-ready c = walking_ready c.requires.accepted c.loop-r.invariant (here c) (left c) (of c) (at_x c) (at_y c) (at_z c)
 
 pub extend_row-requires-clause-room : goal.extend_row-requires-clause-room
-extend_row-requires-clause-room c = rw (value c) (walking_room c.requires.accepted c.loop-r.invariant (here c) (left c) c.requires.computed (of c) (at_x c) (at_y c) (at_z c))
+extend_row-requires-clause-room c = rw (value c) (walking_room c.requires.accepted c.loop-r.invariant (here c) (left c) (of c) (at_x c) (at_y c) (at_z c))
 
 pub loop-r-preserved : goal.loop-r-preserved
 loop-r-preserved c =
     let s = (goal.at.loop-r-preserved c).After-value_at in
     let next : c.if-is_unknown.u ≡ c.loop-r.u + bit (is_unknown (uses (f s).kind)) = search rules in
-    walking_next c.requires.accepted c.loop-r.invariant (here s) (left s) c.requires.computed (of s) (at_x s) (at_y s) (at_z s) next (rw (value s) at c.extend_row.ensures)
+    walking_next c.requires.accepted c.loop-r.invariant (here s) (left s) (of s) (at_x s) (at_y s) (at_z s) next (rw (value s) at c.extend_row.ensures)
 
 pub returns : goal.returns
 returns c =

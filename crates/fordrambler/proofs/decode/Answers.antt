@@ -1,11 +1,8 @@
 -- `fordrambler::decode` meets its contract. Assumes nothing.
-use mathlib.Core.Path.{◌≡◌, sym, ap, ◌∙◌}
+use mathlib.Core.Path.{sym, ap, ◌∙◌}
 use native.Mathlib.Omega.{arith}
 use lib.ListN.{length}
-use Rattle.std.specs.Prelude.{Ok, Err, Some, None}
 use Rattle.std.proofs.lemmas.Result.{err_from_is_err_and}
-use Rattle.sheet.specs.declared.Reason.TheVariants.{FalseClause}
-use Rattle.sheet.specs.Acceptance.{refused}
 use Rattle.decode.specs.Tried.{sheet_tried, outcome_of, unless_false}
 use Rattle.fordrambler.proofs.Fits.{decodable_fits}
 use Rattle.fordrambler.proofs.Leaving.{refused_says, done_says, records_kept, records_filled}

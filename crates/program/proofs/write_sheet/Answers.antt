@@ -1,6 +1,5 @@
 -- `program::write_sheet` meets its contract. Assumes nothing.
 use lib.ListN.{length}
-use borrow.Author.Rules.{rules}
 use Rattle.program.proofs.Rooms.{writing_sheet}
 use Rattle.program.proofs.write_sheet.Goals as goal
 

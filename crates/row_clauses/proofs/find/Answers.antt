@@ -9,17 +9,18 @@ use Rattle.sheet.specs.declared.Record.{Record}
 use Rattle.sheet.specs.Calls.{row_clauses}
 use Rattle.std.proofs.lemmas.Result.{err_from_is_err_and}
 use Rattle.sheet.specs.Acceptance.{missing, record_at, Sheet, accept}
+use Rattle.table.proofs.Lent.{read_into, read_refused}
 use Rattle.row_clauses.proofs.Answers.{by_refusal, by_slots, by_rows, by_record, inside}
 use Rattle.row_clauses.proofs.find.Goals as goal
 
-pub returns-in_err-sheet-clause-answer : goal.returns-in_err-sheet-clause-answer
-returns-in_err-sheet-clause-answer c =
+pub returns-in_err-read-clause-answer : goal.returns-in_err-read-clause-answer
+returns-in_err-read-clause-answer c =
     let p = err_from_is_err_and c.from_residual.result c.from_residual.ensures.1 in
-    rw (p.1, p.2) (by_refusal c.args.table.now c.args.room c.args.row _ (sym c.survey.ensures ∙ c.in_err-sheet.was))
+    rw (p.1, p.2) (by_refusal c.args.table.now c.args.room c.args.row _ (read_refused c.read.new.sheet c.read.ensures.answer c.in_err-read.was))
 
 pub returns-then-room-needed-clause-answer : goal.returns-then-room-needed-clause-answer
 returns-then-room-needed-clause-answer c =
-    let is = sym c.survey.ensures ∙ c.in_ok-sheet.was in
+    let is = read_into c.read.ensures.answer c.in_ok-read.was in
     let n = c.counts-needed.ensures in
     rw (c.at.ensures, n) (by_slots c.args.table.now c.args.room c.args.row _ is (rw n at c.if-room-needed.true))
 
@@ -33,7 +34,7 @@ returns-in-Some c =
     let n = c.counts-needed.ensures in
     let e = c.records-records.ensures.records in
     let p = c.in-Some.ensures.lookup in
-    let (answer, within) = here c.args.room c.args.row c.args.table.now c.in_ok-sheet.sheet c.in-Some.own.now (sym c.survey.ensures ∙ c.in_ok-sheet.was) (rw n at c.if-room-needed.false) (rw (ap length e) at p.3.0) (p.3.1 missing ∙ ap (λ (rs : List Record). record_at rs c.args.row) e) in
+    let (answer, within) = here c.args.room c.args.row c.args.table.now c.read.new.sheet c.in-Some.own.now (read_into c.read.ensures.answer c.in_ok-read.was) (rw n at c.if-room-needed.false) (rw (ap length e) at p.3.0) (p.3.1 missing ∙ ap (λ (rs : List Record). record_at rs c.args.row) e) in
     record { answer = answer; within = within }
 
 pub returns-in-None-clause-answer : goal.returns-in-None-clause-answer
@@ -41,4 +42,4 @@ returns-in-None-clause-answer c =
     let n = c.counts-needed.ensures in
     let many = ap length c.records-records.ensures.records in
     let h = ltb-false c.args.row _ (sym c.in-None.ensures.lookup.0) in
-    rw (c.at-in-None.ensures, many) (by_rows c.args.table.now c.args.room c.args.row _ (sym c.survey.ensures ∙ c.in_ok-sheet.was) (rw n at c.if-room-needed.false) (rw many at h))
+    rw (c.at-in-None.ensures, many) (by_rows c.args.table.now c.args.room c.args.row _ (read_into c.read.ensures.answer c.in_ok-read.was) (rw n at c.if-room-needed.false) (rw many at h))

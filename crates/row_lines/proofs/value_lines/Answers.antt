@@ -1,7 +1,6 @@
 -- `row_lines::value_lines` meets its contract. Assumes nothing.
 use mathlib.Core.Path.{◌≡◌}
 use mathlib.Core.Logic.{inl, inr}
-use Prim.Native.Nat.{ℕ}
 use native.Mathlib.Omega.{arith}
 use lib.ListN.{length}
 use mir.Syntax.{w64}
@@ -12,7 +11,6 @@ use Rattle.std.specs.Iterator.Adapters.{enumerate_source, enumerate_count, zip_f
 use Rattle.std.specs.Slice.Iter.{iter_rest}
 use Rattle.sheet.specs.Values.{fraction}
 use Rattle.sheet.specs.Texts.{value_line}
-use Rattle.print.specs.Put.{Put}
 use Rattle.setting_lines.specs.Settings.{setting_line}
 use Rattle.setting_lines.proofs.Rows.{length_setting}
 use Rattle.row_lines.specs.Numbers.{over_records}

@@ -1,15 +1,25 @@
 -- `setting_lines::settings_page` meets its contract. Assumes nothing.
-use mathlib.Core.Path.{◌≡◌, sym, ◌∙◌}
-use Prim.Native.Nat.{◌+◌, ◌/◌, ◌<◌, min}
+use mathlib.Core.Path.{◌≡◌}
+use Prim.Native.Nat.{◌+◌, ◌/◌, ◌<◌, min, max}
 use native.Mathlib.Omega.{arith}
 use lib.ListN.{length}
-use Rattle.setting_lines.specs.Settings.{unknowns_in}
+use Rattle.setting_lines.specs.Settings.{table_pieces}
 use Rattle.print.proofs.Pages.{left_all, left_step, left_full, left_end}
 use Rattle.setting_lines.proofs.Rows.{pieces_many, piece_fits, unknowns_more, unknowns_few, truth_bit}
 use Rattle.setting_lines.proofs.settings_page.Goals as goal
 
+pub returns-then-from-rows : goal.returns-then-from-rows
+returns-then-from-rows c =
+    let s = c.args in
+    let many = pieces_many (length s.table.now / 8) 0 s.table.now s.numerators.now in
+    let behind : max s.from (length s.table.now / 8) ≡ s.from = omega (arith, c.if-from-rows.true) in
+    let done = left_end (left_all (table_pieces s.table.now s.numerators.now) s.from s.out.now) (rw many c.if-from-rows.true) (λ h. h) in
+    record { answer = rw (many, behind) at done.answer; out = done.text }
+
 pub loop-row-init : goal.loop-row-init
-loop-row-init c = record { number = rw (← c.min.ensures) c.unknowns_before-used.ensures; page = left_all _ _ _ }
+loop-row-init c =
+    let before : min c.args.from (length c.args.table.now / 8) ≡ c.args.from = omega arith in
+    record { number = rw before c.unknowns_before-used.ensures; page = left_all _ _ _ }
 
 pub returns-then-out-size-lt-PIECE : goal.returns-then-out-size-lt-PIECE
 returns-then-out-size-lt-PIECE c =
@@ -53,4 +63,5 @@ returns c =
     let s = c.args in
     let many = pieces_many (length s.table.now / 8) 0 s.table.now s.numerators.now in
     let done = left_end c.loop-row.invariant.page (rw many (omega arith)) (λ h. rw many (omega (arith, many, c.loop-row.auto.row-end))) in
-    record { answer = rw c.max.ensures (rw many at done.answer); out = done.text }
+    let behind : max s.from (length s.table.now / 8) ≡ length s.table.now / 8 = omega arith in
+    record { answer = rw (many, behind) at done.answer; out = done.text }

@@ -52,4 +52,4 @@ pub returns-in-Err : goal.returns-in-Err
 returns-in-Err c =
     let line = refusal_printed c.args.all c.args.table.now c.args.rest.now c.requires.taken blank blank-long (sym c.read_claim.ensures.answer ∙ c.in-Err.is) in
     let whole = piece_whole (claim_text c.args.all c.args.table.now c.args.rest.now) c.args.out.now (omega (arith, c.requires.out_room)) in
-    rw (← line, whole) at c.refused_line.ensures
+    rw (← line, whole) at c.refusal_line.ensures

@@ -1,10 +1,8 @@
 -- `settings_text::print_model` meets its contract. Assumes nothing.
 use mathlib.Core.Path.{◌≡◌, sym, ap, ◌∙◌}
-use mathlib.Core.List.{List}
-use Prim.Native.Nat.{ℕ, ◌≤◌}
+use Prim.Native.Nat.{◌≤◌}
 use native.Mathlib.Omega.{arith}
 use borrow.Author.Rules.{rules}
-use lib.IntN.{ℤ}
 use lib.ListN.{length, take}
 use lib.Seq.{length-take-le}
 use Rattle.decode.specs.Tried.{sheet_tried, outcome_of, unless_false}
@@ -23,7 +21,7 @@ returns-in-Some c =
     let f = sym c.decode_core.ensures.answer ∙ ap outcome_of c.in-Ok.is ∙ ap (λ k. unless_false k c.in-Ok.tried.sheet) c.in-Some.is in
     let line = clause_false c.args.all c.args.table.now c.args.model.now c.requires.told f in
     let whole = piece_whole (told_text c.args.all c.args.table.now c.args.model.now) c.args.out.now (omega (arith, c.requires.out_room)) in
-    rw (c.at.ensures, ← line, whole) at c.refused_line-in-Some.ensures
+    rw (c.at.ensures, ← line, whole) at c.refusal_line-in-Some.ensures
 
 -- no clause is false: the settings stand at the front of the values
 pub slice_bounds-values-end : goal.slice_bounds-values-end

@@ -51,4 +51,4 @@ pub returns-in-Err : goal.returns-in-Err
 returns-in-Err c =
     let line = lines_printed c.args.all c.args.text.now blank blank-long (sym c.read_lines_until_empty.ensures.answer ∙ c.in-Err.is) in
     let whole = piece_whole (reply (told_by c.args.all) c.args.text.now) c.args.out.now (omega (arith, c.requires)) in
-    rw (← line, whole) at c.refused_line.ensures
+    rw (← line, whole) at c.refusal_line.ensures
