@@ -4,6 +4,7 @@
 #![tactic(auto)]
 
 use std::io;
+use table::Sheet;
 
 fn write_pair(rt: &impl Print, words: &[u8], a: u32, b: usize) -> io::Result<()> {
     rt.write_all(words)?;
@@ -14,8 +15,9 @@ fn write_pair(rt: &impl Print, words: &[u8], a: u32, b: usize) -> io::Result<()>
 
 // The record of a row where the records have room, or the refusal.
 fn write_checked(rt: &impl Print, bytes: &[u8], room: usize, row: u8) -> io::Result<()> {
-    match table::check_core(bytes, room) {
-        Ok(sheet) => {
+    let mut sheet = Sheet::start();
+    match table::read_checked(&mut sheet, bytes, room) {
+        Ok(()) => {
             if let Some(record) = sheet.records().get(usize::from(row)) {
                 write_pair(
                     rt,

@@ -1,5 +1,5 @@
 // The walk of a table: the first row that stops decides; else the rows, their records, and what the table counts. One pass over the
-// table, `survey`, serves checking and measuring.
+// table, `read`, serves checking and measuring, and every call behind them.
 #![tactic(auto)]
 
 ghost use Rattle.std.specs.Prelude.{◌≡◌, ◌+◌, ◌-◌, ◌*◌, ◌≤◌, ◌<◌, eqb, min, length, IfOk, MatchResult};
