@@ -101,35 +101,57 @@ module _ (earlier : List Record) (values : List Value) (h : AllHold earlier valu
   pub stands_value : (x : ℕ) {o : Operand} → Stands earlier values x o → value_of o ≡ value_at values x
   stands_value x {o} s = value_back (record_at earlier x) (value_at values x) o (hold_at earlier values h x) s.is_record s.is_numerator
 
+  -- where the row x is an earlier one
+  abbrev pub Given : ℕ → Operand → Type 0
+  Given x o = x < length earlier → Stands earlier values x o
+
+  -- where row x is an earlier one, its record is the same among all
+  abbrev pub Own : List Record → ℕ → Type 0
+  Own records x = x < length earlier → record_at earlier x ≡ record_at records x
+
+  -- the references that the tests of a row let pass
+  two : (x y : ℕ) {a b : Operand} → (leb (length earlier) x || (leb (length earlier) y || false)) ≡ false → Given x a → Given y b → Stands earlier values x a × Stands earlier values y b
+  two x y named at_x at_y = let (hx, hy) = two_named (length earlier) x y named in (at_x hx, at_y hy)
+
   module _ (of : References Operand) where
     -- by kinds, with the fields as variables, because a field of a row cannot be matched
-    ready_by : (k : Kind) (p x y z : ℕ) → Sorted earlier k x y z → (plan_at earlier k p x y z).common ≤ 4096 → (plan_at earlier k p x y z).widest ≤ 48
-        → Stands earlier values x of.x → Stands earlier values y of.y → Stands earlier values z of.z → Ready k of
-    ready_by BooleanConstant p x y z sorted m w s t u = tt
-    ready_by BooleanUnknown p x y z sorted m w s t u = tt
-    ready_by NaturalUnknown p x y z sorted m w s t u = tt
-    ready_by IntegerUnknown p x y z sorted m w s t u = tt
-    ready_by NumberConstant p x y z sorted m w s t u = tt
-    ready_by Not p x y z sorted m w s t u = tt
-    ready_by And p x y z sorted m w s t u = truths x y (sorts 0 x y sorted) (s, t)
-    ready_by Or p x y z sorted m w s t u = truths x y (sorts 0 x y sorted) (s, t)
-    ready_by Implies p x y z sorted m w s t u = truths x y (sorts 0 x y sorted) (s, t)
-    ready_by Iff p x y z sorted m w s t u = truths x y (sorts 0 x y sorted) (s, t)
-    ready_by Sum p x y z sorted m w s t u = meets x y (sorts 1 x y sorted) (s, t) m (omega arith)
-    ready_by Difference p x y z sorted m w s t u = meets x y (sorts 1 x y sorted) (s, t) m (omega arith)
-    ready_by Product p x y z sorted m w s t u = let (x_is, y_is) = sorts 1 x y sorted in (is_number x s x_is (omega arith), is_number y t y_is (omega arith))
-    ready_by Choice p x y z sorted m w s t u =
+    ready_by : (k : Kind) (p x y z : ℕ) → some_not_earlier (length earlier) (sorts_in (uses k)) (x ∷ y ∷ z ∷ []) ≡ false → Sorted earlier k x y z
+        → (plan_at earlier k p x y z).common ≤ 4096 → (plan_at earlier k p x y z).widest ≤ 48 → Given x of.x → Given y of.y → Given z of.z → Ready k of
+    ready_by BooleanConstant p x y z named sorted m w at_x at_y at_z = tt
+    ready_by BooleanUnknown p x y z named sorted m w at_x at_y at_z = tt
+    ready_by NaturalUnknown p x y z named sorted m w at_x at_y at_z = tt
+    ready_by IntegerUnknown p x y z named sorted m w at_x at_y at_z = tt
+    ready_by NumberConstant p x y z named sorted m w at_x at_y at_z = tt
+    ready_by Not p x y z named sorted m w at_x at_y at_z = tt
+    ready_by And p x y z named sorted m w at_x at_y at_z = truths x y (sorts 0 x y sorted) (two x y named at_x at_y)
+    ready_by Or p x y z named sorted m w at_x at_y at_z = truths x y (sorts 0 x y sorted) (two x y named at_x at_y)
+    ready_by Implies p x y z named sorted m w at_x at_y at_z = truths x y (sorts 0 x y sorted) (two x y named at_x at_y)
+    ready_by Iff p x y z named sorted m w at_x at_y at_z = truths x y (sorts 0 x y sorted) (two x y named at_x at_y)
+    ready_by Sum p x y z named sorted m w at_x at_y at_z = meets x y (sorts 1 x y sorted) (two x y named at_x at_y) m (omega arith)
+    ready_by Difference p x y z named sorted m w at_x at_y at_z = meets x y (sorts 1 x y sorted) (two x y named at_x at_y) m (omega arith)
+    ready_by Product p x y z named sorted m w at_x at_y at_z =
+        let (x_is, y_is) = sorts 1 x y sorted in
+        let (s, t) = two x y named at_x at_y in
+        (is_number x s x_is (omega arith), is_number y t y_is (omega arith))
+    ready_by Choice p x y z named sorted m w at_x at_y at_z =
         let (x_is, others) = right_sort (sort_at earlier x) 0 _ sorted in
-        (is_boolean x s x_is, meets y z (sorts 1 y z others) (t, u) m w)
-    ready_by Greater p x y z sorted m w s t u = meets x y (sorts 1 x y sorted) (s, t) m w
-    ready_by Equal p x y z sorted m w s t u = meets x y (sorts 1 x y sorted) (s, t) m w
+        let (hx, rest) = first_named (length earlier) x _ named in
+        (is_boolean x (at_x hx) x_is, meets y z (sorts 1 y z others) (two y z rest at_y at_z) m w)
+    ready_by Greater p x y z named sorted m w at_x at_y at_z = meets x y (sorts 1 x y sorted) (two x y named at_x at_y) m w
+    ready_by Equal p x y z named sorted m w at_x at_y at_z = meets x y (sorts 1 x y sorted) (two x y named at_x at_y) m w
 
-    module _ (records : List Record) (own : (x : ℕ) → x < length earlier → record_at earlier x ≡ record_at records x) where
+    -- a row that passes behind the earlier ones is ready
+    pub row_ready : {first : ℕ} {f : Fields} {r : Record} {k : Counts} → Passes earlier first f r k → Given f.x of.x → Given f.y of.y → Given f.z of.z → Ready f.kind of
+    row_ready {f = f} passes at_x at_y at_z = ready_by f.kind f.p f.x f.y f.z passes.named passes.sorted passes.common passes.widest at_x at_y at_z
+
+    module _ (records : List Record) where
       -- what is said of two operands is said of their rows
-      same_two : {B : Type 0} (say : Record → Record → Value → Value → B) (x y : ℕ) {a b : Operand} → (x < length earlier) × (y < length earlier) → Stands earlier values x a → Stands earlier values y b
+      same_two : {B : Type 0} (say : Record → Record → Value → Value → B) (x y : ℕ) {a b : Operand} → (x < length earlier) × (y < length earlier) → Own records x × Own records y → Given x a → Given y b
           → say a.record b.record (value_of a) (value_of b) ≡ say (record_at records x) (record_at records y) (value_at values x) (value_at values y)
-      same_two say x y {a} {b} (hx, hy) s t =
-          ap₂ (λ (i j : Record). say i j (value_of a) (value_of b)) (s.is_record ∙ own x hx) (t.is_record ∙ own y hy) ∙ ap₂ (say (record_at records x) (record_at records y)) (stands_value x s) (stands_value y t)
+      same_two say x y {a} {b} (hx, hy) (own_x, own_y) at_x at_y =
+          let s = at_x hx in
+          let t = at_y hy in
+          ap₂ (λ (i j : Record). say i j (value_of a) (value_of b)) (s.is_record ∙ own_x hx) (t.is_record ∙ own_y hy) ∙ ap₂ (say (record_at records x) (record_at records y)) (stands_value x s) (stands_value y t)
 
       abbrev over_rows : Kind → (p x y z : ℕ) → ℤ → List Bool
       over_rows k p x y z v = trace_by k p (record_at records x) (record_at records y) (record_at records z) (value_at values x) (value_at values y) (value_at values z) v
@@ -138,38 +160,35 @@ module _ (earlier : List Record) (values : List Value) (h : AllHold earlier valu
       over_operands k p v = trace_by k p of.x.record of.y.record of.z.record (value_of of.x) (value_of of.y) (value_of of.z) v
 
       -- of two operands
-      traced : (k : Kind) (p x y z : ℕ) (v : ℤ) → (leb (length earlier) x || (leb (length earlier) y || false)) ≡ false → Stands earlier values x of.x → Stands earlier values y of.y
+      traced : (k : Kind) (p x y z : ℕ) (v : ℤ) → (leb (length earlier) x || (leb (length earlier) y || false)) ≡ false → Own records x × Own records y → Given x of.x → Given y of.y
           → trace_by k p of.x.record of.y.record of.z.record (value_of of.x) (value_of of.y) (value_of of.z) v ≡ trace_by k p (record_at records x) (record_at records y) of.z.record (value_at values x) (value_at values y) (value_of of.z) v
-      traced k p x y z v named at_x at_y = same_two (λ a b i j. trace_by k p a b of.z.record i j (value_of of.z) v) x y (two_named (length earlier) x y named) at_x at_y
+      traced k p x y z v named own at_x at_y = same_two (λ a b i j. trace_by k p a b of.z.record i j (value_of of.z) v) x y (two_named (length earlier) x y named) own at_x at_y
 
-      trace_is : (k : Kind) (p x y z : ℕ) (v : ℤ) → some_not_earlier (length earlier) (sorts_in (uses k)) (x ∷ y ∷ z ∷ []) ≡ false → Stands earlier values x of.x → Stands earlier values y of.y → Stands earlier values z of.z
+      trace_is : (k : Kind) (p x y z : ℕ) (v : ℤ) → some_not_earlier (length earlier) (sorts_in (uses k)) (x ∷ y ∷ z ∷ []) ≡ false → Own records x × Own records y → Own records z → Given x of.x → Given y of.y → Given z of.z
           → over_operands k p v ≡ over_rows k p x y z v
-      trace_is BooleanConstant p x y z v named at_x at_y at_z = refl
-      trace_is BooleanUnknown p x y z v named at_x at_y at_z = refl
-      trace_is NaturalUnknown p x y z v named at_x at_y at_z = refl
-      trace_is IntegerUnknown p x y z v named at_x at_y at_z = refl
-      trace_is NumberConstant p x y z v named at_x at_y at_z = refl
-      trace_is Not p x y z v named at_x at_y at_z = refl
-      trace_is And p x y z v named at_x at_y at_z = traced And p x y z v named at_x at_y
-      trace_is Or p x y z v named at_x at_y at_z = traced Or p x y z v named at_x at_y
-      trace_is Implies p x y z v named at_x at_y at_z = traced Implies p x y z v named at_x at_y
-      trace_is Iff p x y z v named at_x at_y at_z = traced Iff p x y z v named at_x at_y
-      trace_is Sum p x y z v named at_x at_y at_z = traced Sum p x y z v named at_x at_y
-      trace_is Difference p x y z v named at_x at_y at_z = traced Difference p x y z v named at_x at_y
-      trace_is Product p x y z v named at_x at_y at_z = traced Product p x y z v named at_x at_y
-      trace_is Choice p x y z v named at_x at_y at_z =
+      trace_is BooleanConstant p x y z v named own own_z at_x at_y at_z = refl
+      trace_is BooleanUnknown p x y z v named own own_z at_x at_y at_z = refl
+      trace_is NaturalUnknown p x y z v named own own_z at_x at_y at_z = refl
+      trace_is IntegerUnknown p x y z v named own own_z at_x at_y at_z = refl
+      trace_is NumberConstant p x y z v named own own_z at_x at_y at_z = refl
+      trace_is Not p x y z v named own own_z at_x at_y at_z = refl
+      trace_is And p x y z v named own own_z at_x at_y at_z = traced And p x y z v named own at_x at_y
+      trace_is Or p x y z v named own own_z at_x at_y at_z = traced Or p x y z v named own at_x at_y
+      trace_is Implies p x y z v named own own_z at_x at_y at_z = traced Implies p x y z v named own at_x at_y
+      trace_is Iff p x y z v named own own_z at_x at_y at_z = traced Iff p x y z v named own at_x at_y
+      trace_is Sum p x y z v named own own_z at_x at_y at_z = traced Sum p x y z v named own at_x at_y
+      trace_is Difference p x y z v named own own_z at_x at_y at_z = traced Difference p x y z v named own at_x at_y
+      trace_is Product p x y z v named own own_z at_x at_y at_z = traced Product p x y z v named own at_x at_y
+      trace_is Choice p x y z v named own own_z at_x at_y at_z =
           let (hx, rest) = first_named (length earlier) x _ named in
           let a = of.x.record in
-          ap (λ (k : Value). trace_by Choice p a of.y.record of.z.record k (value_of of.y) (value_of of.z) v) (stands_value x at_x)
-          ∙ same_two (λ b c i j. trace_by Choice p a b c (value_at values x) i j v) y z (two_named (length earlier) y z rest) at_y at_z
-      trace_is Greater p x y z v named at_x at_y at_z = traced Greater p x y z v named at_x at_y
-      trace_is Equal p x y z v named at_x at_y at_z = traced Equal p x y z v named at_x at_y
+          ap (λ (k : Value). trace_by Choice p a of.y.record of.z.record k (value_of of.y) (value_of of.z) v) (stands_value x (at_x hx))
+          ∙ same_two (λ b c i j. trace_by Choice p a b c (value_at values x) i j v) y z (two_named (length earlier) y z rest) (own.1, own_z) at_y at_z
+      trace_is Greater p x y z v named own own_z at_x at_y at_z = traced Greater p x y z v named own at_x at_y
+      trace_is Equal p x y z v named own own_z at_x at_y at_z = traced Equal p x y z v named own at_x at_y
 
-      -- a row that passes behind the earlier ones
-      module _ {first : ℕ} {f : Fields} {r : Record} {k : Counts} (passes : Passes earlier first f r k) (at_x : Stands earlier values f.x of.x) (at_y : Stands earlier values f.y of.y) (at_z : Stands earlier values f.z of.z) where
-        pub row_ready : Ready f.kind of
-        row_ready = ready_by f.kind f.p f.x f.y f.z passes.sorted passes.common passes.widest at_x at_y at_z
-
-        pub row_trace : (v : ℤ) → trace_over f of v ≡ trace_of records values f v
-        unfolding trace_over trace_of
-        row_trace v = trace_is f.kind f.p f.x f.y f.z v passes.named at_x at_y at_z
+      -- the gates of a row that passes behind the earlier ones hold of its operands what they hold of its rows
+      pub row_trace : {first : ℕ} {f : Fields} {r : Record} {k : Counts} → Passes earlier first f r k → Own records f.x → Own records f.y → Own records f.z → Given f.x of.x → Given f.y of.y → Given f.z of.z
+          → (v : ℤ) → trace_over f of v ≡ trace_of records values f v
+      unfolding trace_over trace_of
+      row_trace {f = f} passes own_x own_y own_z at_x at_y at_z v = trace_is f.kind f.p f.x f.y f.z v passes.named (own_x, own_y) own_z at_x at_y at_z

@@ -27,7 +27,7 @@ use Rattle.extend.specs.Bytes.{Room, Put}
 use Rattle.extend.proofs.Putting.{Left, left_all, left_room, left_step, left_none}
 use Rattle.number_extender.specs.declared.Operand.{Operand}
 use Rattle.row_extender.specs.Ready.{Ready, trace_over}
-use Rattle.extender.proofs.Standing.{Stands, row_ready, row_trace}
+use Rattle.extender.proofs.Standing.{Stands, Given, row_ready, row_trace}
 
 -- r rows are extended, and u values are taken
 pub record Walking (sheet : Sheet) (values : List ℤ) (before model : PartialModel) (u r : ℕ) : Type 0 where
@@ -106,12 +106,12 @@ module _ {sheet : Sheet} (a : Accepted sheet) {values : List ℤ} {before model 
         is_numerator = o.is_numerator ∙ ap (λ (l : List ℤ). get_or l x (pos 0)) numbers ∙ get_or-map numerator p.earlier x (boolean false);
       }
 
-    module _ (of : References Operand) (at_x : Stands (take r sheet.records) p.earlier f.x of.x) (at_y : Stands (take r sheet.records) p.earlier f.y of.y) (at_z : Stands (take r sheet.records) p.earlier f.z of.z) where
+    module _ (of : References Operand) (at_x : Given (take r sheet.records) p.earlier p.hold f.x of.x) (at_y : Given (take r sheet.records) p.earlier p.hold f.y of.y) (at_z : Given (take r sheet.records) p.earlier p.hold f.z of.z) where
       pub walking_ready : Ready f.kind of
-      walking_ready = row_ready (take r sheet.records) p.earlier p.hold of sheet.records own here.passes at_x at_y at_z
+      walking_ready = row_ready (take r sheet.records) p.earlier p.hold of here.passes at_x at_y at_z
 
       is_trace : trace_over f of value ≡ trace_of sheet.records p.earlier f value
-      is_trace = row_trace (take r sheet.records) p.earlier p.hold of sheet.records own here.passes at_x at_y at_z value
+      is_trace = row_trace (take r sheet.records) p.earlier p.hold of sheet.records here.passes (own f.x) (own f.y) (own f.z) at_x at_y at_z value
 
       abbrev after : List Bool
       after = traces_from sheet.records (p.earlier ++ row_val p.earlier f value ∷ []) (drop (r + 1) sheet.rows) (drop (bit (is_unknown (uses f.kind))) (drop u values))

@@ -22,21 +22,25 @@ pub cost_short : (i : ℕ) (r : Record) → length (cost_line i r) ≤ 64
 unfolding pair_line
 cost_short i r = omega (arith, length_pair [] i r.slots)
 
--- no more rows have a line than have a record, and none where either is missing
+-- no more rows have a line than have a record; as many as have a numerator, where all of these have records; and none where either is missing
 pub numbers_few : (rs : List Record) (ns : List ℤ) → length (over_records rs ns) ≤ length rs
 unfolding over_records
 numbers_few [] ns = omega arith
 numbers_few (r ∷ rs) [] = omega arith
 numbers_few (r ∷ rs) (n ∷ ns) = omega (arith, numbers_few rs ns)
 
+pub numbers_many : (rs : List Record) (ns : List ℤ) → length ns ≤ length rs → length (over_records rs ns) ≡ length ns
+unfolding over_records
+numbers_many [] [] h = refl
+numbers_many [] (n ∷ ns) h = absurd (omega arith)
+numbers_many (r ∷ rs) [] h = refl
+numbers_many (r ∷ rs) (n ∷ ns) h = omega (arith, numbers_many rs ns (omega arith))
+
 pub no_records : (rs : List Record) (ns : List ℤ) → length rs ≡ 0 → length (over_records rs ns) ≡ 0
 no_records rs ns e = omega (arith, numbers_few rs ns)
 
 pub no_numbers : (rs : List Record) (ns : List ℤ) → length ns ≡ 0 → length (over_records rs ns) ≡ 0
-unfolding over_records
-no_numbers [] ns e = refl
-no_numbers (r ∷ rs) [] e = refl
-no_numbers (r ∷ rs) (n ∷ ns) e = absurd (omega arith)
+no_numbers rs ns e = omega (arith, numbers_many rs ns (omega arith))
 
 -- a record has its value's denominator, so its line is its value's
 line_is : (i : ℕ) (r : Record) (v : Value) → Holds r v → value_line i (fraction (numerator v) r.denominator) ≡ value_line i v

@@ -60,16 +60,16 @@ module _ (s : After-value_at) where
   value = kept s.value_at.result s.value_at.type_inv ∙ s.value_at.ensures
 
 pub extend_row-requires-clause-ready : goal.extend_row-requires-clause-ready
-extend_row-requires-clause-ready c = walking_ready c.requires.accepted c.loop-r.invariant (here c) (left c) (of c) (at_x c) (at_y c) (at_z c)
+extend_row-requires-clause-ready c = walking_ready c.requires.accepted c.loop-r.invariant (here c) (left c) (of c) (λ k. at_x c) (λ k. at_y c) (λ k. at_z c)
 
 pub extend_row-requires-clause-room : goal.extend_row-requires-clause-room
-extend_row-requires-clause-room c = rw (value c) (walking_room c.requires.accepted c.loop-r.invariant (here c) (left c) (of c) (at_x c) (at_y c) (at_z c))
+extend_row-requires-clause-room c = rw (value c) (walking_room c.requires.accepted c.loop-r.invariant (here c) (left c) (of c) (λ k. at_x c) (λ k. at_y c) (λ k. at_z c))
 
 pub loop-r-preserved : goal.loop-r-preserved
 loop-r-preserved c =
     let s = (goal.at.loop-r-preserved c).After-value_at in
     let next : c.if-is_unknown.u ≡ c.loop-r.u + bit (is_unknown (uses (f s).kind)) = search rules in
-    walking_next c.requires.accepted c.loop-r.invariant (here s) (left s) (of s) (at_x s) (at_y s) (at_z s) next (rw (value s) at c.extend_row.ensures)
+    walking_next c.requires.accepted c.loop-r.invariant (here s) (left s) (of s) (λ k. at_x s) (λ k. at_y s) (λ k. at_z s) next (rw (value s) at c.extend_row.ensures)
 
 pub returns : goal.returns
 returns c =
